@@ -1,0 +1,3 @@
+pub mod Endings
+pub mod Faults
+pub mod Headings
