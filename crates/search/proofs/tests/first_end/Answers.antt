@@ -1,0 +1,12 @@
+use native.Mathlib.Omega.{arith}
+use Rattle.search.proofs.tests.first_end.Needs as need
+
+pub least-end-requires : need.least-end-requires
+least-end-requires g c κs = record {
+  few = omega (arith, c .pre .some .1);
+  rows = (omega (arith, c .pre .some .0), omega (arith, c .pre .some .0, c .pre .rows));
+  ready = c .ready .ensures (c .in-Continue-check .ensures tt .0);
+  size = omega (arith, c .low-start .ensures .size);
+  low = c .low-start .ensures .low;
+  within = omega (arith, c .pre .some .0);
+}
