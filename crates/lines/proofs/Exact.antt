@@ -17,7 +17,7 @@ use Rattle.lines.specs.declared.operator.Operator.the-variants.{Before, NotAft
 use Rattle.lines.specs.Bounding.{Weighs, baseOf, numberOf, weightOf, weightBy, edgesOf, edgesBy}
 use Rattle.lines.specs.Keeping.{Compares, Keeps, rightTime}
 use Rattle.lines.specs.Proper.{Within}
-use Rattle.search.specs.Bounds.{Bound, Times, asked, Meets, bounds, timesOf, largest}
+use Rattle.bounds.specs.Bounds.{Bound, Times, asked, Meets, bounds, timesOf, largest}
 use Rattle.scales.proofs.Lawful.{Laws}
 use Rattle.scales.proofs.Order as order
 use Rattle.scales.proofs.Readings.{reading-zero}

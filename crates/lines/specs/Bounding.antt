@@ -12,8 +12,8 @@ use Rattle.lines.specs.declared.operator.Operator.{Operator}
 use Rattle.lines.specs.declared.operator.Operator.the-variants as op
 use Rattle.lines.specs.declared.reading.LineEdges.{LineEdges}
 use Rattle.lines.specs.Keeping.{Keeps}
-use Rattle.search.specs.Bounds.{Times, timesOf, Meets, bounds, largest}
-use Rattle.search.specs.declared.edge.Edge.{Edge}
+use Rattle.bounds.specs.Bounds.{Times, timesOf, Meets, bounds, largest}
+use Rattle.bounds.specs.declared.edge.Edge.{Edge}
 use Rattle.scales.specs.declared.sums.OrderedSums.{Ghosts}
 
 abbrev pub baseOf : ℕ → Right → ℕ

@@ -1,4 +1,4 @@
-// Timing lines: what they say, what a line as asked for is refused for, and how a line reads as bounds for the search.
+// Timing lines: what they say, what a line as asked for is refused for, and how a line reads as bounds on times.
 mod asked;
 mod line;
 mod operator;

@@ -5,8 +5,8 @@ ghost use Rattle.lines.specs.Bounding.{Weighs, baseOf, edgesOf, listed, number
 use crate::line::Line;
 use crate::line::Right;
 use crate::operator::Operator;
+use bounds::Edge;
 use scales::Scale;
-use search::Edge;
 
 // The edges of one line: one, or two where it says "with".
 #[derive(Clone, Copy)]

@@ -1,0 +1,12 @@
+pub mod Counts
+pub mod Grounds
+pub mod Holding
+pub mod Lowering
+pub mod Partial
+pub mod Picks
+pub mod Progress
+pub mod Reaching
+pub mod Rows
+pub mod Solutions
+pub mod Waning
+pub mod Walks

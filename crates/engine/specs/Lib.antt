@@ -1,0 +1,5 @@
+pub mod Books
+pub mod Calls
+pub mod Checks
+pub mod Records
+pub mod Refusals

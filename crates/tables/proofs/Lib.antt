@@ -1,0 +1,4 @@
+pub mod Edges
+pub mod Facts
+pub mod Naming
+pub mod Records

@@ -1,0 +1,4 @@
+pub mod Gathering
+pub mod Naming
+pub mod Of
+pub mod Tables
