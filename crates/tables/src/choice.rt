@@ -28,11 +28,11 @@ impl Choice {
         self.picked[number]
     }
 
-    pub fn put(&mut self, number: usize, within: bool)
-        requires { ⌜ number < 400 ⌝ }
-        ensures { λ _. ⌜ now (self .exit) .picked ≡ set (now (self .entry) .picked) number within ⌝ }
+    pub fn put(&mut self, at: usize, within: bool)
+        requires { ⌜ at < 400 ⌝ }
+        ensures { λ _. ⌜ now (self .exit) .picked ≡ set (now (self .entry) .picked) at within ⌝ }
     {
-        self.picked[number] = within;
+        self.picked[at] = within;
     }
 
     // Writes the chosen numbers, rising, to the front of `names`, and answers how many they are.

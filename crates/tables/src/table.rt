@@ -46,12 +46,12 @@ impl Table {
     }
 
     // Puts a line, or none, under one number.
-    pub fn put(&mut self, number: usize, line: Option<Line>)
-        requires within { ⌜ number < 400 ⌝ }
+    pub fn put(&mut self, at: usize, line: Option<Line>)
+        requires within { ⌜ at < 400 ⌝ }
         requires admitted { ⌜ admits (now self .devices) line ≡ true ⌝ }
         ensures devices { λ _. ⌜ now (self .exit) .devices ≡ now (self .entry) .devices ⌝ }
-        ensures lines { λ _. ⌜ now (self .exit) .lines ≡ set (now (self .entry) .lines) number line ⌝ }
+        ensures lines { λ _. ⌜ now (self .exit) .lines ≡ set (now (self .entry) .lines) at line ⌝ }
     {
-        self.lines[number] = line;
+        self.lines[at] = line;
     }
 }

@@ -6,4 +6,4 @@ use Rattle.tables.proofs.table.Table.put.Needs as need
 pub ghost-self : need.ghost-self
 ghost-self c =
     let table = c .args .self .now in
-    (table .some, (table .few, (length-set _ _ _ ∙ table .full, (put-sound _ _ (c .args .number) (c .args .line) (table .sound) (c .pre .admitted), tt))))
+    (table .some, (table .few, (length-set _ _ _ ∙ table .full, (put-sound _ _ (c .args .at) (c .args .line) (table .sound) (c .pre .admitted), tt))))
