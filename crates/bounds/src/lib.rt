@@ -1,5 +1,7 @@
 // Least times under bounds of the form "the time of A is not before the time of B plus w", or the verdict that no times meet them.
 // This crate knows sums, order and the step of a scale, and neither readings nor lines nor books.
+#![tactic(auto)]
+
 mod edge;
 mod ends;
 mod laws;

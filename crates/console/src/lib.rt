@@ -1,4 +1,6 @@
 // What a session answers: one printed line for each command, and one for a fault.
+#![tactic(auto)]
+
 mod lines;
 mod run;
 #[cfg(test)]

@@ -1,4 +1,6 @@
 // The engine: a book of timing lines and what can be asked of it.
+#![tactic(auto)]
+
 mod book;
 mod calls;
 mod refusal;

@@ -1,4 +1,6 @@
 // Timing lines: what they say, what a line as asked for is refused for, and how a line reads as bounds on times.
+#![tactic(auto)]
+
 mod asked;
 mod laws;
 mod line;

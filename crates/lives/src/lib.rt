@@ -1,4 +1,6 @@
 // Whole lives of a book: any list of calls, each made where the one before ended.
+#![tactic(auto)]
+
 mod life;
 mod steps;
 #[cfg(test)]

@@ -1,4 +1,6 @@
 // The printed lines: one for each command, its letter first, and one for a session's end or its fault.
+#![tactic(auto)]
+
 mod answers;
 mod closing;
 mod fields;

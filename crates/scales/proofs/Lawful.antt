@@ -7,6 +7,7 @@ use denote.RattleType.{RattleType}
 use mir.Syntax.{Dict}
 use prog.Model.{Model}
 use prog.Routine.{Env}
+use Rattle.std.specs.declared.clone.Clone as Clone
 use Rattle.scales.specs.declared.sums.OrderedSums.{Ghosts}
 use Rattle.scales.specs.contracts.sums.OrderedSums.TheBound.{Met}
 use Rattle.scales.specs.Order.{NotAfter, Before}
@@ -31,7 +32,7 @@ pub record Laws {S : Type 0} (m : Ghosts S) : Type 0 where
   pub near : (c : ℤ) → m.size (m.reading c) ≤ nat_abs c + 50
   pub enclosed : (x : m.Time) → NotAfter m (m.reading (neg_ℤ (pos (m.size x)))) x × NotAfter m x (m.reading (pos (m.size x)))
 
-pub laws_of : {M : Type 1} {𝓤 : Ura M} {𝓛 : Logic 𝓤} {𝓜 : Model 𝓤 𝓛.H} {𝓡 : Running 𝓤 𝓛.H 𝓜} {γ : Env} {S : RattleType} {m : Ghosts S.Denot} {d : Dict} → Met 𝓛 𝓜 𝓡 γ S m d → Laws m
+pub laws_of : {M : Type 1} {𝓤 : Ura M} {𝓛 : Logic 𝓤} {𝓜 : Model 𝓤 𝓛.H} {𝓡 : Running 𝓤 𝓛.H 𝓜} {γ : Env} {S : RattleType} {m : Ghosts S.Denot} {d : Dict} {c : Clone.Ghosts S.Denot} {e : Dict} → Met 𝓛 𝓜 𝓡 γ S m d c e → Laws m
 laws_of met = record {
   associative = met.associative;
   commutative = met.commutative;

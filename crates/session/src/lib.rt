@@ -1,4 +1,6 @@
 // Reads a session: its heading, and then command after command up to its end.
+#![tactic(auto)]
+
 mod command;
 mod fault;
 mod heading;

@@ -1,4 +1,6 @@
 // Runs the sessions that the arguments name, and shows for each what it prints, and whether that is what is due.
+#![tactic(auto)]
+
 mod hex;
 mod sheet;
 

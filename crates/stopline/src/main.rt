@@ -1,4 +1,6 @@
 // Reads a session from standard input, and prints what it answers.
+#![tactic(auto)]
+
 use console::transcript;
 use session::LONGEST;
 use std::io;

@@ -1,4 +1,6 @@
 // The records of a book, choices among their numbers, and their lines as edges and weights of bounds.
+#![tactic(auto)]
+
 mod choice;
 mod gather;
 mod table;

@@ -1,4 +1,6 @@
 // Verdicts on the lines of a table: the first timetable or a quarrel, the window of a device, and whether a line follows.
+#![tactic(auto)]
+
 mod following;
 mod reduce;
 mod settling;

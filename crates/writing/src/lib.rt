@@ -1,5 +1,7 @@
 // Bytes, texts and numbers written into a buffer that a caller lends, from a place on.
 // Each call answers the place behind what it wrote, so that calls follow one another.
+#![tactic(auto)]
+
 ghost use Rattle.std.specs.Prelude.{◌+◌, ◌<◌, ◌≤◌, [], ◌∷◌, length, decimal};
 ghost use Rattle.std.specs.Fmt.{signed_decimal};
 ghost use Rattle.writing.specs.Put.{Put};

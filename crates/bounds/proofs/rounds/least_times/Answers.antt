@@ -30,7 +30,7 @@ raise_all-requires g c =
       rows = c.loop-round.auto.spare ∙ c.requires.rows.1 ∙ sym long;
       some = omega arith;
       ready = subst (λ k. Ready m k c.args.weights.now c.args.edges.now) last c.requires.ready;
-      small = λ x l. omega (arith, arrived_size m laws n bs (ready_grounded m laws n c.args.weights.now c.args.edges.now c.requires.ready) start c.loop-round.-round (times_of m c.loop-round.times) deepest c.requires.size (c.loop-round.invariant start c.begin.ensures).arrived x (omega arith), c.requires.few, c.loop-round-test.true);
+      small = λ x l. omega (arith, arrived_size m laws n bs (ready_grounded m laws n c.args.weights.now c.args.edges.now c.requires.ready) start c.loop-round._round (times_of m c.loop-round.times) deepest c.requires.size (c.loop-round.invariant start c.begin.ensures).arrived x (omega arith), c.requires.few, c.loop-round-test.true);
     }
 
 pub returns-then-settled : goal.returns-then-settled
@@ -41,7 +41,7 @@ returns-then-settled g c =
     let bs = bounds m c.args.weights.now c.args.edges.now in
     let start = m.means c.args.start in
     let long : length c.loop-round.times ≡ n + 1 = c.loop-round.auto.times ∙ c.begin.auto.times ∙ c.requires.rows.0 in
-    settles m laws n bs (ready_grounded m laws n c.args.weights.now c.args.edges.now c.requires.ready) start c.loop-round.-round (times_of m c.loop-round.times) (times_of m c.raise_all.new.new) c.raise_all.ensures (c.loop-round.invariant start c.begin.ensures)
+    settles m laws n bs (ready_grounded m laws n c.args.weights.now c.args.edges.now c.requires.ready) start c.loop-round._round (times_of m c.loop-round.times) (times_of m c.raise_all.new.new) c.raise_all.ensures (c.loop-round.invariant start c.begin.ensures)
     (omega (arith, c.loop-round-test.true))
     (λ x l. c.if-settled.ensures x (omega arith))
 
@@ -60,8 +60,8 @@ returns-then-not-not_after g c =
     let bs = bounds m c.args.weights.now c.args.edges.now in
     let start = m.means c.args.start in
     let grounded = ready_grounded m laws n c.args.weights.now c.args.edges.now c.requires.ready in
-    lifts m laws n bs grounded start (suc c.loop-round.-round) (times_of m c.raise_all.new.new) (omega (arith, c.loop-round-test.true))
-    (arrived_more m laws n bs grounded start c.loop-round.-round (times_of m c.loop-round.times) (times_of m c.raise_all.new.new) c.raise_all.ensures (c.loop-round.invariant start c.begin.ensures))
+    lifts m laws n bs grounded start (suc c.loop-round._round) (times_of m c.raise_all.new.new) (omega (arith, c.loop-round-test.true))
+    (arrived_more m laws n bs grounded start c.loop-round._round (times_of m c.loop-round.times) (times_of m c.raise_all.new.new) c.raise_all.ensures (c.loop-round.invariant start c.begin.ensures))
     (λ le. failed m (m.means c.index-spare-devices.result) (m.means c.zero.result) c.if-not-not_after.ensures (along m laws (lifted g (goal.at.returns-then-not-not_after g c).After-not_after) (sym c.zero.ensures) le))
 
 pub loop-round-preserved : goal.loop-round-preserved
@@ -69,7 +69,7 @@ loop-round-preserved g c start begun =
     let m = g.S.OrderedSums in
     let laws = laws_of g.met.S.OrderedSums in
     let n = c.args.devices in
-    let r = c.loop-round.-round in
+    let r = c.loop-round._round in
     let bs = bounds m c.args.weights.now c.args.edges.now in
     let t = times_of m c.loop-round.times in
     let u = times_of m c.raise_all.new.new in
@@ -87,4 +87,4 @@ returns g c =
     let n = c.args.devices in
     let bs = bounds m c.args.weights.now c.args.edges.now in
     let start = m.means c.args.start in
-    runs_out m laws n bs (ready_grounded m laws n c.args.weights.now c.args.edges.now c.requires.ready) start c.loop-round.-round (times_of m c.loop-round.times) (omega (arith, c.loop-round-test.false)) (c.loop-round.invariant start c.begin.ensures)
+    runs_out m laws n bs (ready_grounded m laws n c.args.weights.now c.args.edges.now c.requires.ready) start c.loop-round._round (times_of m c.loop-round.times) (omega (arith, c.loop-round-test.false)) (c.loop-round.invariant start c.begin.ensures)

@@ -7,4 +7,4 @@ use Rattle.bounds.proofs.rounds.least_times.Given as goal
 abbrev pub invariant-loop-round : goal.invariant-loop-round
 invariant-loop-round g l =
     let m = g.S.OrderedSums in
-    (start : m.Time) → Begun m l.devices start (times_of m l.initial.times) → Progress m l.devices (bounds m l.weights l.edges) start l.-round (times_of m l.times)
+    (start : m.Time) → Begun m l.devices start (times_of m l.initial.times) → Progress m l.devices (bounds m l.weights l.edges) start l._round (times_of m l.times)

@@ -11,15 +11,15 @@ loop-edge-init g c =
 pub raise-requires : goal.raise-requires
 raise-requires g c = record {
   rows = c.loop-edge.auto.new ∙ c.copy_from_slice.ensures.len ∙ c.requires.rows;
-  fit = c.requires.ready _ (has_get_or c.args.edges.now c.loop-edge.edge_index _ c.loop-edge-test.true);
+  fit = c.requires.ready _ (has_get_or c.args.edges.now c.loop-edge.edge-index _ c.loop-edge-test.true);
   some = c.requires.some;
   small = c.requires.small;
 }
 
 pub loop-edge-preserved : goal.loop-edge-preserved
 loop-edge-preserved g c =
-    partial_more g.S.OrderedSums (laws_of g.met.S.OrderedSums) c.args.weights.now c.args.edges.now c.args.old.now _ _ c.loop-edge.edge_index _ c.loop-edge-test.true c.raise.ensures c.loop-edge.invariant
+    partial_more g.S.OrderedSums (laws_of g.met.S.OrderedSums) c.args.weights.now c.args.edges.now c.args.old.now _ _ c.loop-edge.edge-index _ c.loop-edge-test.true c.raise.ensures c.loop-edge.invariant
 
 pub returns : goal.returns
 returns g c =
-    partial_all g.S.OrderedSums (laws_of g.met.S.OrderedSums) c.args.weights.now c.args.edges.now c.args.old.now _ c.loop-edge.edge_index c.loop-edge-test.false c.loop-edge.invariant
+    partial_all g.S.OrderedSums (laws_of g.met.S.OrderedSums) c.args.weights.now c.args.edges.now c.args.old.now _ c.loop-edge.edge-index c.loop-edge-test.false c.loop-edge.invariant

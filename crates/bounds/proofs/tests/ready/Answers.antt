@@ -10,7 +10,7 @@ loop-edge-preserved g c =
     let m = g.S.OrderedSums in
     let row = c.args.weights.now in
     let short = All-map (λ t. m.size t ≤ largest) m.means row c.requires in
-    All-more (Fit m c.args.devices row) c.args.edges.now c.loop-edge.edge_index _ c.loop-edge-test.true c.loop-edge.invariant
+    All-more (Fit m c.args.devices row) c.args.edges.now c.loop-edge.edge-index _ c.loop-edge-test.true c.loop-edge.invariant
     (record {
       at_in = c.if-edge-devices.false;
       from_in = c.if-edge-devices-2.false;
@@ -21,4 +21,4 @@ loop-edge-preserved g c =
 pub returns : goal.returns
 returns g c _ e has =
     let P = Fit g.S.OrderedSums c.args.devices c.args.weights.now in
-    all-has P c.args.edges.now e (subst (All P) (take_all c.loop-edge.edge_index c.args.edges.now c.loop-edge-test.false) c.loop-edge.invariant) has
+    all-has P c.args.edges.now e (subst (All P) (take_all c.loop-edge.edge-index c.args.edges.now c.loop-edge-test.false) c.loop-edge.invariant) has

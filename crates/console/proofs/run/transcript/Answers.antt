@@ -13,5 +13,5 @@ returns c =
     record {
       ending = c.read.result;
       read = c.read.ensures;
-      lines = pushed _ c.new-out.ensures.items c.in-ok-extend_from_slice.was c.extend_from_slice.ensures.items ∙ front (closing c.read.result) _ _ c.close-end.result c.close-end.ensures.wrote;
+      lines = pushed _ c.new-out.ensures.items c.in_ok-extend_from_slice.was c.extend_from_slice.ensures.items ∙ front (closing c.read.result) _ _ c.close-end.result c.close-end.ensures.wrote;
     }

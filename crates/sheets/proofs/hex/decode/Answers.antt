@@ -7,7 +7,7 @@ returns-in-default c out d = c.in-default.ensures (get_or out c.loop-index.index
 pub loop-index-preserved : goal.loop-index-preserved
 loop-index-preserved c =
     let len = c.loop-index.invariant.0 in
-    let pushed = c.in-ok-push.ensures in (
+    let pushed = c.in_ok-push.ensures in (
       omega (arith, pushed.len),
       below_more _ _
           (λ k h. rw (pushed.by_index.0 k 0 (omega (arith, len))) (c.loop-index.invariant.1 k h))

@@ -17,6 +17,6 @@ returns c =
     (λ u e. (
       _,
       not_due (λ p. true≢false (sym (same.1 p) ∙ c.if-eq.false)),
-      e ∙ ap (λ (x : List ℕ). x ++ c.args.due.now) c.in-ok-add.ensures ∙ append_assoc (vec_items c.args.out.now) (codes "due:\n") c.args.due.now,
+      e ∙ ap (λ (x : List ℕ). x ++ c.args.due.now) c.in_ok-add.ensures ∙ append_assoc (vec_items c.args.out.now) (codes "due:\n") c.args.due.now,
     ))
     c.add-3.ensures

@@ -13,20 +13,20 @@ added a b c d e p-is q-is r-is same s-is t-is = cc (regroup a b c d e)
 
 pub returns : goal.returns
 returns c =
-    let printed = vec_items c.in-ok-printed.printed in
-    let judged = c.in-ok-judge.ensures in
+    let printed = vec_items c.in_ok-printed.printed in
+    let judged = c.in_ok-judge.ensures in
     record {
       session = vec_items c.in-Some.session;
       printed = printed;
       judgement = judged.0;
-      decoded = MatchOption-at_some _ _ _ c.in-Some.is c.in-ok-session.ensures;
-      prints = subst (λ (bs : List ℕ). Transcript bs printed) c.as_slice.ensures.value c.in-ok-printed.ensures.prints;
+      decoded = MatchOption-at_some _ _ _ c.in-Some.is c.in_ok-session.ensures;
+      prints = subst (λ (bs : List ℕ). Transcript bs printed) c.as_slice.ensures.value c.in_ok-printed.ensures.prints;
       judged = subst (λ (bs : List ℕ). Judged bs c.args.due.now judged.0) c.as_slice-3.ensures.value judged.1;
       lines = added (codes "sheet ") c.args.name.now (codes "\n") printed judged.0
-          c.in-ok-out.ensures.items
-          c.in-ok-add.ensures
-          c.in-ok-add-2.ensures
+          c.in_ok-out.ensures.items
+          c.in_ok-add.ensures
+          c.in_ok-add-2.ensures
           c.as_slice-2.ensures.value
-          c.in-ok-add-3.ensures
+          c.in_ok-add-3.ensures
           judged.2;
     }

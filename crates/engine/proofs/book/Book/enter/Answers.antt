@@ -4,5 +4,5 @@ use Rattle.engine.proofs.book.Book.enter.Goals as goal
 
 pub returns-in_err-line : goal.returns-in_err-line
 returns-in_err-line g c =
-    let p = err_from_is_err_and c.from-residual.result c.from-residual.ensures.1 in
+    let p = err_from_is_err_and c.from_residual.result c.from_residual.ensures.1 in
     record { devices = refl; entered = rw (p.1, p.2) (c.in_err-line.ensures, refl) }
