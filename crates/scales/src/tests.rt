@@ -99,5 +99,5 @@ fn printing_leaves_the_rest_of_the_buffer(rt: HostRuntime) {
     let mut buffer = [7u8; 36];
     let end = Ticks { ms: -12 }.print(&mut buffer, 2);
     assert_eq!(rt; end, 5);
-    assert!(rt; &buffer[0..6] == b"\x07\x07-12\x07");
+    assert!(rt; &buffer[0..6] == b"\x07\x07-12\x07".as_slice());
 }

@@ -1,8 +1,8 @@
 use Rattle.std.proofs.Common.{get_or, refl, arith, below_more}
 use Rattle.sheets.proofs.hex.decode.Goals as goal
 
-pub returns-in-default : goal.returns-in-default
-returns-in-default c out d = c.in-default.ensures (get_or out c.loop-index.index 0) (d.bytes c.loop-index.index (omega (arith, d.whole)))
+pub returns-in_default : goal.returns-in_default
+returns-in_default c out d = c.in_default.ensures (get_or out c.loop-index.index 0) (d.bytes c.loop-index.index (omega (arith, d.whole)))
 
 pub loop-index-preserved : goal.loop-index-preserved
 loop-index-preserved c =

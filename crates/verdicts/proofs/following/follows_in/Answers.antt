@@ -30,9 +30,9 @@ returns-then-shows g c =
       shown.2,
     )
 
-pub returns-in-default : goal.returns-in-default
-returns-in-default g c = (
-  opposites_clash g.S.OrderedSums (laws_of g.met.S.OrderedSums) _ c.args.line (first_clash g (goal.at.returns-in-default g c).Else-shows) (λ p e. absurd (c.in-default.not-Some p (ap (λ q. q.1) c.opposites-first.ensures ∙ e))),
+pub returns-in_default : goal.returns-in_default
+returns-in_default g c = (
+  opposites_clash g.S.OrderedSums (laws_of g.met.S.OrderedSums) _ c.args.line (first_clash g (goal.at.returns-in_default g c).Else-shows) (λ p e. absurd (c.in_default.not-Some p (ap (λ q. q.1) c.opposites-first.ensures ∙ e))),
   c.if-shows.ensures.shown.1,
 )
 

@@ -6,7 +6,7 @@ use Rattle.tables.proofs.table.Table.weigh.Goals as goal
 pub loop-number-preserved : goal.loop-number-preserved
 loop-number-preserved g c =
     let one = c.weigh_one.ensures in (
-      λ k none. one.others k (λ at. none) ∙ c.loop-number.invariant.0 k none,
+      λ k none. one.spared k (λ at. none) ∙ c.loop-number.invariant.0 k none,
       below_more _ _
           (λ k h l shows. subst (Weighs g.S.OrderedSums l) (sym (one.others k (λ (at : k ≡ c.loop-number.number). absurd (omega arith)))) (c.loop-number.invariant.1 k h l shows))
           one.here,

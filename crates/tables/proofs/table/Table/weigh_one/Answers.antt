@@ -17,7 +17,8 @@ returns-in-Some g c =
       here = λ l shows.
           let is : c.in-Some.line ≡ l = let a = c.line.ensures in let b = c.in-Some.is in cc in
           subst (Weighs m l) (sym (times_set_same m c.args.weights.now i c.weight.result c.requires.room)) (subst (λ (k : Line). Weighs m k (m.means c.weight.result)) is c.weight.ensures);
-      others = λ k none.
+      others = λ k ne. times_set_other m c.args.weights.now i k c.weight.result ne;
+      spared = λ k none.
           let ne : k ≢ i = λ at. let e = none at in let a = c.line.ensures in let b = c.in-Some.is in let z : ◌≡◌ {A = ℕ} 0 1 = cc in omega arith in
           times_set_other m c.args.weights.now i k c.weight.result ne;
     }
