@@ -76,14 +76,14 @@ returns-in-Window g c =
       lawful = lawful m (laws_of g.met.S.OrderedSums) _ _ _ _ (proper b) (
         refl,
         rw c.in-Window.is (
-          c.window_answer.result,
+          c.window-answer.result,
           refl,
-          subst (λ w. Windows m (devices_of b) (sheet_of b) c.in-Window.device (length w) c.window_answer.result) c.as_mut_slice-in-Window.ensures.value c.window_answer.ensures,
+          subst (λ w. Windows m (devices_of b) (sheet_of b) c.in-Window.device (length w) c.window-answer.result) c.as_mut_slice-in-Window.ensures.value c.window-answer.ensures,
           refl,
           refl,
         ),
       );
-      lengths = record { times = refl; names = refl; work = as_long c.args.step.now.work c.window_answer.new.work };
+      lengths = record { times = refl; names = refl; work = as_long c.args.step.now.work c.window-answer.new.work };
       stands = λ past shows. idle _ past _
           (λ j l en. let p = en.1 in let q = c.in-Window.is in let z : ◌≡◌ {A = ℕ} 0 1 = cc in omega arith)
           (λ j st. let p = st.0 in let q = c.in-Window.is in let z : ◌≡◌ {A = ℕ} 0 1 = cc in omega arith)
