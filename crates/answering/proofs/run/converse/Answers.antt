@@ -19,11 +19,11 @@ loop-step-init g c =
     let bs = bytes_of s in
     let book = c.in-Ok.ensures in
     let step = c.in_ok-step.ensures in
-    let devices : devices_of c.in-Ok.book ≡ byte_at bs 5 = book.1 ∙ ap (λ (h : Heading). h.devices) c.heading.ensures ∙ c.requires.devices in
+    let devices : devices_of c.in-Ok.book ≡ byte_at bs 5 = book.begins.2 ∙ ap (λ (h : Heading). h.devices) c.heading.ensures ∙ c.requires.devices in
     let enough : byte_at bs 5 ≤ 200 = omega (arith, few c.in-Ok.book, devices) in (
       refl,
       subst (λ (p : ℕ). Going m bs c.in-Ok.book c.in_ok-step.step p (vec_items c.args.out.now) (vec_items c.args.out.now)) (sym c.requires.place)
-          (begun m bs c.in-Ok.book c.in_ok-step.step (vec_items c.args.out.now) c.requires.opened devices (nothing_stands _ book.2)
+          (begun m bs c.in-Ok.book c.in_ok-step.step (vec_items c.args.out.now) c.requires.opened devices (nothing_stands _ book.begins.3)
           (record { times = omega (arith, step.times, enough); names = step.names; work = step.work })),
     )
 
@@ -37,7 +37,7 @@ pub loop-step-preserved : goal.loop-step-preserved
 loop-step-preserved g c =
     let inv = c.loop-step.invariant in
     let gives = subst (λ (next : Next). Gives c.loop-step.reader (Ok next)) c.in-Command.is c.in_ok-command.ensures.gives in
-    let made = c.in_ok-answer.ensures in (
+    let made = c.in_ok-answer-in-Command.ensures in (
       gives.1 ∙ inv.0,
       subst (λ (p : ℕ). Going g.S.OrderedSums (bytes_of c.args.commands) c.answer.new.book c.answer.new.step p (vec_items c.args.out.now) (vec_items c.answer.new.out)) (sym gives.2)
           (one_more g.S.OrderedSums (laws_of g.met.S.OrderedSums) inv.1 c.in-Command.command c.answer.new.book c.answer.new.step made.performed
