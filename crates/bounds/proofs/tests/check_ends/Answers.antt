@@ -5,7 +5,7 @@ pub least_end-end-requires : goal.least_end-end-requires
 least_end-end-requires g c = record {
   few = omega arith;
   rows = (c.loop-case.auto.times ∙ c.requires.rows.0, c.loop-case.auto.spare ∙ c.requires.rows.1);
-  ready = c.ready.ensures c.in_ok-check.ensures.0;
+  ready = c.ready.ensures (rw c.if-assert.false tt);
   size = omega (arith, c.low_start.ensures.size);
   low = c.low_start.ensures.low;
   within = omega arith;
