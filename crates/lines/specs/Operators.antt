@@ -1,5 +1,5 @@
 -- The operators: their bytes and their opposites.
-use Rattle.std.specs.Prelude.{◌≡◌, ℕ, Bool, true, false, Some, None, Option, ◌≢◌}
+use Rattle.std.specs.Prelude.{ℕ, Bool, true, false, Some, None, Option, ◌≢◌}
 use Rattle.lines.specs.declared.operator.Operator.{Operator}
 use Rattle.lines.specs.declared.operator.Operator.TheVariants.{Before, NotAfter, With, NotBefore, After}
 

@@ -1,5 +1,5 @@
 -- The lines that a book of n devices may hold.
-use Rattle.std.specs.Prelude.{◌≡◌, ℕ, ◌<◌, ◌≤◌, ◌⊎◌, ℤ, pos, negsuc, ◌≤ℤ◌}
+use Rattle.std.specs.Prelude.{◌≡◌, ℕ, ◌<◌, ◌⊎◌, pos, negsuc, ◌≤ℤ◌}
 use Rattle.lines.specs.declared.line.Line.{Line}
 use Rattle.lines.specs.declared.line.Right.{Right}
 use Rattle.lines.specs.declared.line.Right.TheVariants.{Device, Constant}

@@ -1,5 +1,5 @@
 -- A set of numbered lines that quarrel, with none too many.
-use Rattle.std.specs.Prelude.{◌≡◌, ℕ, ◌<◌, List, length, ◌≢◌, slice_index}
+use Rattle.std.specs.Prelude.{ℕ, ◌<◌, List, length, ◌≢◌, slice_index}
 use Rattle.std.specs.List.{ContainsAt as Has}
 use Rattle.lines.specs.declared.line.Line.{Line}
 use Rattle.lines.specs.Timetables.{Keepable, Clashes}

@@ -1,10 +1,9 @@
 -- Two lives of the same calls with the same buffers answer alike.
-use Rattle.std.proofs.Common.{◌≡◌, ℕ, zero, suc, ◌+◌, ◌<◌, ◌≤◌, List, [], ◌∷◌, ◌++◌, map, length, get_or, take, Some, None, Option, Result, sym, refl, ap, ◌∙◌, subst, add-one, arith}
+use Rattle.std.proofs.Common.{◌≡◌, ℕ, zero, suc, ◌<◌, ◌≤◌, List, [], ◌∷◌, ◌++◌, map, length, get_or, take, Some, None, Option, Result, sym, ap, ◌∙◌, add-one, arith}
 use mathlib.Core.List.{map-append}
 use Rattle.std.proofs.lemmas.List.{take_more}
 use Rattle.engine.specs.declared.refusal.Refusal.{Refusal}
 use Rattle.lines.proofs.Same.{SameSheet, swap_sheets}
-use Rattle.lines.specs.Quarrels.{Sheet}
 use Rattle.lines.specs.declared.line.Line.{Line}
 use Rattle.scales.specs.declared.sums.OrderedSums.{Ghosts}
 use Rattle.scales.proofs.Lawful.{Laws}

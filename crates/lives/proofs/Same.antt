@@ -1,5 +1,5 @@
 -- What a call answers where the lines of one sheet stand, it answers where the same lines of another do.
-use Rattle.std.proofs.Common.{◌≡◌, ℕ, ◌⊎◌, List, [], ◌∷◌, Ok, Err, Option, Result, sym, refl, ◌∙◌, subst, inl, inr, ⊎_elim, MatchResult}
+use Rattle.std.proofs.Common.{◌≡◌, ℕ, List, [], ◌∷◌, Ok, Err, Option, Result, refl, ◌∙◌, inl, inr, ⊎_elim}
 use Rattle.engine.specs.Calls.{Settles, Windows, FollowsAs}
 use Rattle.engine.specs.Checks.{Check, Granted, Refused, enter_checks, strike_checks, window_checks}
 use Rattle.engine.specs.declared.refusal.Refusal.{Refusal}

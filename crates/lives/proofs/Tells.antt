@@ -1,5 +1,5 @@
 -- What the answer of a call tells of the lines that stood.
-use Rattle.std.proofs.Common.{◌≡◌, ℕ, ◌⊎◌, List, take, Some, Ok, Err, vec_items, Option, Result, refl, ap, ◌∙◌, subst, inl, inr, ⊎_elim, arith}
+use Rattle.std.proofs.Common.{◌≡◌, ℕ, List, take, Some, Ok, Err, Option, Result, refl, subst, inl, inr, ⊎_elim, arith}
 use Rattle.engine.specs.Calls.{FollowsAs, Settles}
 use Rattle.engine.specs.Records.{Entered, Struck}
 use Rattle.engine.specs.declared.refusal.Refusal.{Refusal}

@@ -1,5 +1,5 @@
 -- What stood before a call and its buffers settle its answer, but for a clash set.
-use Rattle.std.proofs.Common.{◌≡◌, ℕ, ◌+◌, ◌-◌, ◌<◌, ◌≤◌, ◌⊎◌, List, [], ◌∷◌, map, length, get_or, drop, Some, None, Ok, Err, vec_items, Option, Result, sym, refl, ap, ◌∙◌, subst, inl, inr, ⊎_elim, arith}
+use Rattle.std.proofs.Common.{◌≡◌, ℕ, ◌+◌, ◌-◌, ◌<◌, ◌≤◌, List, [], ◌∷◌, map, length, get_or, drop, Some, None, Ok, Err, vec_items, Option, Result, sym, refl, ap, ◌∙◌, subst, inl, inr, ⊎_elim, arith}
 use Rattle.std.proofs.lemmas.List.{get_or-drop, drop-map}
 use Rattle.std.proofs.lemmas.Bool.{cases_lt}
 use Rattle.bounds.specs.Bounds.{times_of}
@@ -25,7 +25,6 @@ use Rattle.lives.specs.Answers.{Answers, Makes, EnterAnswers, StrikeAnswers}
 use Rattle.lives.specs.Determined.{SameEnd, AlikeReply, the_same, both_clash, same_window, Alike}
 use Rattle.lives.specs.declared.steps.Call.{Call}
 use Rattle.lives.specs.declared.steps.Call.TheVariants.{Enter, Strike, Settle, Window, Follows}
-use Rattle.lives.specs.declared.steps.Reply.{Reply}
 use Rattle.lives.specs.declared.steps.Reply.TheVariants as reply
 use Rattle.lives.specs.declared.steps.Step.{Step}
 use Rattle.lives.proofs.Tells.{opposite_breaks, quarrel_clashes}

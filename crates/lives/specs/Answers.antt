@@ -1,5 +1,5 @@
 -- What each call answers and leaves in its buffers, where the lines of a sheet stand.
-use Rattle.std.specs.Prelude.{◌≡◌, ℕ, List, length, Some, vec_items, Option, Result, MatchResult}
+use Rattle.std.specs.Prelude.{◌≡◌, ℕ, length, Some, vec_items, Option, Result, MatchResult}
 use Rattle.engine.specs.Checks.{Granted, Refused, enter_checks, strike_checks}
 use Rattle.engine.specs.Calls.{FollowsAs, Settles, Windows}
 use Rattle.verdicts.specs.declared.following.Followed.{Followed}

@@ -1,8 +1,6 @@
 -- The life of a book: what stands after each of its calls, and what each call answers.
 use Rattle.std.specs.Prelude.{◌≡◌, ℕ, ◌<◌, List, [], ◌++◌, map, length, take, Some, Ok, vec_items, slice_index_or}
-use Rattle.verdicts.specs.declared.following.Followed.{Followed}
 use Rattle.verdicts.specs.declared.following.Followed.TheVariants.{Yes, No}
-use Rattle.verdicts.specs.declared.settling.Settled.{Settled}
 use Rattle.verdicts.specs.declared.settling.Settled.TheVariants.{Times, Clash}
 use Rattle.lines.specs.Asking.{Writes}
 use Rattle.lines.specs.Keeping.{Keeps, KeepsAll}

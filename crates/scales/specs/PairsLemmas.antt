@@ -1,5 +1,5 @@
 -- Laws of pairs that are summed part by part and ordered by the first part, then by the second.
-use Rattle.std.specs.Prelude.{◌≡◌, T, ℤ}
+use Rattle.std.specs.Prelude.{◌≡◌, T}
 use Rattle.std.proofs.Common.{ap, ◌∙◌, arith}
 use Rattle.std.proofs.Math.IntN.{+ℤ_assoc}
 use Rattle.std.proofs.lemmas.Int.{ints}

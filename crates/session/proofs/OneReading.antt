@@ -1,5 +1,5 @@
 -- Whichever bytes a session holds, it has exactly one reading.
-use Rattle.std.proofs.Common.{◌≡◌, ℕ, zero, suc, ◌-◌, ◌≤◌, ◌⊎◌, List, [], ◌∷◌, length, Some, None, Option, sym, refl, ap, subst, ⊎_elim, arith}
+use Rattle.std.proofs.Common.{◌≡◌, ℕ, zero, suc, ◌-◌, ◌≤◌, List, [], ◌∷◌, length, Some, None, Option, sym, refl, ap, subst, ⊎_elim, arith}
 use Rattle.session.specs.declared.command.Command.{Command}
 use Rattle.session.specs.declared.fault.Fault.{Fault}
 use Rattle.session.specs.Commands.{behind}
