@@ -3,7 +3,7 @@ use Rattle.std.proofs.Common.{◌≡◌, ℕ, List, [], ◌∷◌, ◌++◌, map
 use mathlib.Core.List.{map-append}
 use Rattle.std.proofs.ByRecursion.{All-push}
 use Rattle.std.proofs.lemmas.List.{append-nil, length-map}
-use Rattle.std.specs.List.{AllByRecursion as All}
+use Rattle.std.specs.List.{AllByRecursion}
 use Rattle.engine.specs.Books.{devices_of, sheet_of}
 use Rattle.engine.specs.declared.book.Book.{Book}
 use Rattle.lives.proofs.Longer.{lived_more}
@@ -37,7 +37,7 @@ module _ {S : Type 0} (m : Ghosts S) where
     pub asked : List (Step S)
     pub done : List (Step S)
     pub calls : map call_in asked ≡ map call_of commands
-    pub ample : All (Ample (byte_at bs 5)) asked
+    pub ample : AllByRecursion (Ample (byte_at bs 5)) asked
     pub lived : Lived m (byte_at bs 5) asked done
     pub devices : devices_of book ≡ byte_at bs 5
     pub shows : ShowsAll (sheet_of book) (map made done)

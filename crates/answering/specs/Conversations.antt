@@ -1,6 +1,6 @@
 -- The life that the commands of a session make of an empty book, and its lines.
 use Rattle.std.specs.Prelude.{◌≡◌, ℕ, ◌≤◌, List, [], ◌∷◌, ◌++◌, map, length, vec_items}
-use Rattle.std.specs.List.{AllByRecursion as All}
+use Rattle.std.specs.List.{AllByRecursion}
 use Rattle.lives.specs.Lives.{Lived}
 use Rattle.lives.specs.declared.steps.Step.{Step}
 use Rattle.scales.specs.declared.sums.OrderedSums.{Ghosts}
@@ -27,6 +27,6 @@ module _ {S : Type 0} (m : Ghosts S) where
     pub asked : List (Step S)
     pub done : List (Step S)
     pub calls : map (λ s. s.call) asked ≡ map call_of cs
-    pub ample : All (Ample n) asked
+    pub ample : AllByRecursion (Ample n) asked
     pub lived : Lived m n asked done
     pub lines : out ≡ lines_of n cs done

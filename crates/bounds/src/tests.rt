@@ -1,5 +1,5 @@
 ghost use Rattle.std.specs.Prelude.{◌≡◌, ◌<◌, ◌≤◌, T, length};
-ghost use Rattle.std.specs.List.{AllByRecursion as All};
+ghost use Rattle.std.specs.List.{AllByRecursion};
 ghost use Rattle.bounds.specs.Bounds.{Ready, largest};
 
 use crate::*;
@@ -34,7 +34,7 @@ const FIVE: u16 = 3;
 
 // Whether each edge stands among so many devices and the origin, and its weight in the row.
 fn ready<S: OrderedSums>(devices: usize, edges: &[Edge], weights: &[S]) -> bool
-    requires { All (λ w. S.OrderedSums.size (S.OrderedSums.means w) ≤ largest) weights.now }
+    requires { AllByRecursion (λ w. S.OrderedSums.size (S.OrderedSums.means w) ≤ largest) weights.now }
     ensures { T result → Ready S.OrderedSums devices weights.now edges.now }
 {
     for edge in edges {
@@ -76,7 +76,7 @@ fn find<S: Scale>(
     times: &mut [S],
     spare: &mut [S],
 ) -> Result<bool, Fail>
-    requires light { All (λ w. S.OrderedSums.size (S.OrderedSums.means w) ≤ largest) weights.now }
+    requires light { AllByRecursion (λ w. S.OrderedSums.size (S.OrderedSums.means w) ≤ largest) weights.now }
     requires some { (0 < length times.old) × (length times.old ≤ 201) }
     requires rows { length spare.old ≡ length times.old }
 {
@@ -105,7 +105,7 @@ fn check_alone<S: Scale>(
     times: &mut [S],
     spare: &mut [S],
 ) -> Result<(), Fail>
-    requires light { All (λ w. S.OrderedSums.size (S.OrderedSums.means w) ≤ largest) weights.now }
+    requires light { AllByRecursion (λ w. S.OrderedSums.size (S.OrderedSums.means w) ≤ largest) weights.now }
     requires rows { (length times.old ≡ 2) × (length spare.old ≡ 2) }
 {
     assert!(rt; find(rt, &[], weights, times, spare)?);
@@ -251,7 +251,7 @@ fn check_ends<S: Scale>(
     times: &mut [S],
     spare: &mut [S],
 ) -> Result<(), Fail>
-    requires light { All (λ w. S.OrderedSums.size (S.OrderedSums.means w) ≤ largest) weights.now }
+    requires light { AllByRecursion (λ w. S.OrderedSums.size (S.OrderedSums.means w) ≤ largest) weights.now }
     requires rows { (length times.old ≡ 3) × (length spare.old ≡ 3) }
 {
     for case in cases() {

@@ -1,6 +1,6 @@
 -- What stands after one more call, from what stood before it.
 use Rattle.std.proofs.Common.{◌≡◌, ℕ, ◌<◌, ◌⊎◌, List, [], ◌∷◌, ◌++◌, length, get_or, set, replicate, Some, None, Ok, Err, Option, Result, sym, refl, ap, ◌∙◌, subst, inl, inr, ⊎_elim, append_assoc, arith}
-use Rattle.std.specs.List.{AllByRecursion as All}
+use Rattle.std.specs.List.{AllByRecursion}
 use Rattle.std.proofs.ByRecursion.{All-push}
 use Rattle.std.proofs.lemmas.List.{get_or-set_same, get_or-set_other}
 use Rattle.std.proofs.lemmas.Bool.{cases_eq, cases_lt}
@@ -31,7 +31,7 @@ split_last [] s (f ∷ e) x xs p = absurd (nothing_there e x xs (cc))
 split_last (q ∷ past) s [] x xs p = inr (past, (cc), (cc))
 split_last (q ∷ past) s (f ∷ e) x xs p = ⊎_elim inl (λ t. inr (t.0, t.1, (let h = t.2 in cc))) (split_last past s e x xs (cc))
 
-unpush : {X : Type 0} (P : X → Type 0) (xs : List X) (x : X) → All P (xs ++ x ∷ []) → All P xs × P x
+unpush : {X : Type 0} (P : X → Type 0) (xs : List X) (x : X) → AllByRecursion P (xs ++ x ∷ []) → AllByRecursion P xs × P x
 unpush P [] x h = (tt, h.0)
 unpush P (y ∷ xs) x h = ((h.0, (unpush P xs x h.1).0), (unpush P xs x h.1).1)
 
@@ -57,7 +57,7 @@ module _ {S : Type 0} where
       ⊎_elim
       (λ q. inl (subst (λ v. Enters v k l) q.0 st.enters))
       (λ t.
-      let u = unpush (λ v. Strikes v k → ⊥) t.0 c (subst (All (λ v. Strikes v k → ⊥)) t.1 st.kept) in
+      let u = unpush (λ v. Strikes v k → ⊥) t.0 c (subst (AllByRecursion (λ v. Strikes v k → ⊥)) t.1 st.kept) in
       inr (record { earlier = st.earlier; entry = st.entry; later = t.0; split = t.2; enters = st.enters; kept = u.0 }, u.1))
       (split_last past c st.earlier st.entry st.later st.split)
 

@@ -1,6 +1,6 @@
 -- Which lines stand after a list of calls.
 use Rattle.std.specs.Prelude.{◌≡◌, ℕ, List, ◌∷◌, ◌++◌, Some, Ok, Option}
-use Rattle.std.specs.List.{AllByRecursion as All}
+use Rattle.std.specs.List.{AllByRecursion}
 use Rattle.lines.specs.Asking.{Writes}
 use Rattle.lines.specs.declared.asked.Asked.{Asked}
 use Rattle.lines.specs.declared.line.Line.{Line}
@@ -34,4 +34,4 @@ module _ {S : Type 0} where
     pub later : List (Made S)
     pub split : past ≡ earlier ++ entry ∷ later
     pub enters : Enters entry k l
-    pub kept : All (λ c. Strikes c k → ⊥) later
+    pub kept : AllByRecursion (λ c. Strikes c k → ⊥) later

@@ -1,6 +1,6 @@
 -- Edges that cover a set of lines: solutions of the edges are the timetables that keep the lines.
 use Rattle.std.proofs.Common.{◌≡◌, ℕ, ◌+◌, ◌<◌, ◌≤◌, Bool, true, false, cond, ltb, List, sym, refl, subst, arith}
-use Rattle.std.specs.List.{ContainsAt as Has, AllByRecursion as All}
+use Rattle.std.specs.List.{ContainsAt as Has, AllByRecursion}
 use Rattle.std.proofs.ByRecursion.{all-has}
 use Rattle.std.proofs.lemmas.Bool.{lt-ltb, le-ltb, cond-true, cond-false}
 use Rattle.lines.specs.Bounding.{base_of, edges_of, edges_by, upwards, downwards}
@@ -36,7 +36,7 @@ module _ (n k : ℕ) (l : Line) (lim : Limited n l) where
   down : Fits (downwards n k l)
   down = (base l.right lim.right, omega (arith, lim.left), refl)
 
-  by_operator : (o : Operator) → All Fits (edges_by o n k l)
+  by_operator : (o : Operator) → AllByRecursion Fits (edges_by o n k l)
   by_operator Before = (down, tt)
   by_operator NotAfter = (down, tt)
   by_operator With = (up, (down, tt))

@@ -1,5 +1,5 @@
 use Rattle.std.proofs.Common.{◌≤◌, map, subst, arith}
-use Rattle.std.specs.List.{AllByRecursion as All}
+use Rattle.std.specs.List.{AllByRecursion}
 use Rattle.std.proofs.ByRecursion.{All-get_or, all-has, All-map, All-more}
 use Rattle.std.proofs.lemmas.List.{length-map, take_all}
 use Rattle.bounds.specs.Bounds.{Fit, largest}
@@ -21,4 +21,4 @@ loop-edge-preserved g c =
 pub returns : goal.returns
 returns g c _ e has =
     let P = Fit g.S.OrderedSums c.args.devices c.args.weights.now in
-    all-has P c.args.edges.now e (subst (All P) (take_all c.loop-edge.edge-index c.args.edges.now c.loop-edge-test.false) c.loop-edge.invariant) has
+    all-has P c.args.edges.now e (subst (AllByRecursion P) (take_all c.loop-edge.edge-index c.args.edges.now c.loop-edge-test.false) c.loop-edge.invariant) has
