@@ -1,5 +1,6 @@
 pub mod Carried
 pub mod Determined
+pub mod Exact
 pub mod Longer
 pub mod Same
 pub mod Stands

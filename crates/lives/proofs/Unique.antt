@@ -1,6 +1,6 @@
 -- What stood before a call and its buffers settle its answer, but for a clash set.
 use Rattle.std.proofs.Common.{◌≡◌, ℕ, ◌+◌, ◌-◌, ◌<◌, ◌≤◌, List, [], ◌∷◌, map, length, get_or, drop, Some, None, Ok, Err, vec_items, Option, Result, sym, refl, ap, ◌∙◌, subst, inl, inr, ⊎_elim, arith}
-use Rattle.std.proofs.lemmas.List.{get_or-drop, drop-map}
+use Rattle.std.proofs.lemmas.List.{drop-map}
 use Rattle.std.proofs.lemmas.Bool.{cases_lt}
 use Rattle.bounds.specs.Bounds.{times_of}
 use Rattle.engine.specs.Calls.{Settles, Windows, FollowsAs}
@@ -27,6 +27,7 @@ use Rattle.lives.specs.declared.steps.Call.{Call}
 use Rattle.lives.specs.declared.steps.Call.TheVariants.{Enter, Strike, Settle, Window, Follows}
 use Rattle.lives.specs.declared.steps.Reply.TheVariants as reply
 use Rattle.lives.specs.declared.steps.Step.{Step}
+use Rattle.lives.proofs.Exact.{same_behind}
 use Rattle.lives.proofs.Tells.{opposite_breaks, quarrel_clashes}
 
 not_both : (cs : List Check) (r : Refusal) → Granted cs → Refused cs r → ⊥
@@ -56,10 +57,8 @@ strike_one sheet k (Err e) (Err h) f g = ap Err (one_refusal (strike_checks shee
 module _ {S : Type 0} (m : Ghosts S) where
   -- behind their front two buffers hold the same times
   times_behind : (n : ℕ) (a b : List S) → drop n a ≡ drop n b → (x : ℕ) → n ≤ x → times_of m a x ≡ times_of m b x
-  times_behind n a b e x h =
-      let at : n + (x - n) ≡ x = omega arith in
-      let here = λ (c : List S). ap (λ y. get_or (map m.means c) y m.zero) (sym at) ∙ sym (get_or-drop n (map m.means c) (x - n) m.zero) ∙ ap (λ ts. get_or ts (x - n) m.zero) (drop-map m.means n c) in
-      here a ∙ ap (λ r. get_or (map m.means r) (x - n) m.zero) e ∙ sym (here b)
+  times_behind n a b e x =
+      same_behind n (map m.means a) (map m.means b) (drop-map m.means n a ∙ ap (map m.means) e ∙ sym (drop-map m.means n b)) x m.zero
 
   module _ (laws : Laws m) where
     first_one : (n : ℕ) (floor : m.Time) (lines : Line → Type 0) (s t : Timetable m) → First m n floor lines s → First m n floor lines t → (x : ℕ) → x < n → s x ≡ t x

@@ -1,5 +1,5 @@
 -- What a call that was made leaves under each number of a book of n devices, and how long it leaves its buffers.
-use Rattle.std.specs.Prelude.{◌≡◌, ℕ, List, length, Some, vec_items, Option, Result}
+use Rattle.std.specs.Prelude.{◌≡◌, ℕ, ◌<◌, List, length, Some, vec_items, Option, Result, slice_index_or}
 use Rattle.engine.specs.Records.{Entered, Struck}
 use Rattle.engine.specs.declared.refusal.Refusal.{Refusal}
 use Rattle.lines.specs.declared.line.Line.{Line}
@@ -26,3 +26,7 @@ module _ {S : Type 0} where
     pub times : length (vec_items t.times) ≡ length (vec_items s.times)
     pub names : length (vec_items t.names) ≡ length (vec_items s.names)
     pub work : length (vec_items t.work) ≡ length (vec_items s.work)
+
+  -- and so through a list of steps
+  abbrev pub AllSameLengths : List (Step S) → List (Step S) → Type 0
+  AllSameLengths asked done = (i : ℕ) (d : Step S) → i < length asked → SameLengths (slice_index_or asked i d) (slice_index_or done i d)

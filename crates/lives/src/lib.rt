@@ -6,5 +6,5 @@ mod steps;
 #[cfg(test)]
 mod tests;
 
-pub use life::{go_on, live, one_life, perform};
+pub use life::{exact_answers, go_on, live, one_life, perform};
 pub use steps::{Call, Reply, Step};

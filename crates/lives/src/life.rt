@@ -2,8 +2,9 @@ ghost use Rattle.std.specs.Prelude.{◌≡◌, ◌≤◌, List, [], ◌∷◌, �
 ghost use Rattle.engine.specs.Books.{devices_of, records_of, sheet_of};
 ghost use Rattle.engine.specs.declared.refusal.Refusal.TheVariants.{Devices};
 ghost use Rattle.engine.specs.Checks.{Granted, Refused, begin_checks};
-ghost use Rattle.lives.specs.Changes.{Changes, SameLengths};
+ghost use Rattle.lives.specs.Changes.{AllSameLengths, Changes, SameLengths};
 ghost use Rattle.lives.specs.Determined.{OneLife};
+ghost use Rattle.lives.specs.Exact.{ExactAnswers};
 ghost use Rattle.lives.specs.Lives.{Lawful, Lived, LivedOn, ShowsAll};
 ghost use Rattle.lives.specs.Standing.{Made, made};
 
@@ -50,6 +51,7 @@ pub fn perform<S: Scale>(book: &mut Book<S>, step: &mut Step<S>)
 // Goes on with the life of a book: every call of the list is made in turn, whatever calls came before.
 pub fn go_on<S: Scale>(book: &mut Book<S>, steps: &mut [Step<S>])
     ensures devices { devices_of book.new ≡ devices_of book.old }
+    ensures lengths { AllSameLengths steps.old steps.new }
     ensures lived { (past : List (Made S)) → ShowsAll (sheet_of book.old) past → LivedOn S.OrderedSums (devices_of book.old) past steps.old steps.new }
     ensures stands { (past : List (Made S)) → ShowsAll (sheet_of book.old) past → ShowsAll (sheet_of book.new) (past ++ map made steps.new) }
 {
@@ -62,6 +64,7 @@ pub fn go_on<S: Scale>(book: &mut Book<S>, steps: &mut [Step<S>])
 pub fn live<S: Scale>(devices: u8, steps: &mut [Step<S>]) -> Result<Book<S>, Refusal>
     ensures lived { MatchResult result (λ b. (devices_of b ≡ devices) × Lived S.OrderedSums devices steps.old steps.new × ShowsAll (sheet_of b) (map made steps.new)) (λ e. (e ≡ Devices) × ((1 ≤ devices) → (devices ≤ 200) → ⊥) × (steps.new ≡ steps.old)) }
     ensures checks { MatchResult result (λ _. Granted (begin_checks devices)) (Refused (begin_checks devices)) }
+    ensures lengths { AllSameLengths steps.old steps.new }
 {
     let mut book = Book::begin(devices)?;
     go_on(&mut book, steps);
@@ -71,6 +74,13 @@ pub fn live<S: Scale>(devices: u8, steps: &mut [Step<S>]) -> Result<Book<S>, Ref
 // The rules of lives leave no choice but that of a clash set. The value carries nothing.
 pub fn one_life<S: Scale>() -> bool
     ensures { OneLife S.OrderedSums }
+{
+    true
+}
+
+// Whatever calls answer is exact: a clash and what follows are told wherever they are so. The value carries nothing.
+pub fn exact_answers<S: Scale>() -> bool
+    ensures { ExactAnswers S.OrderedSums }
 {
     true
 }

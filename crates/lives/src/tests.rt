@@ -57,6 +57,8 @@ fn outcome<S: Scale>(step: &Step<S>) -> u16 {
         Some(Reply::Settled(Ok(Settled::Times))) => 100,
         Some(Reply::Settled(Ok(Settled::Clash(2)))) => 102,
         Some(Reply::Followed(Ok(Followed::No))) => 200,
+        Some(Reply::Followed(Ok(Followed::Yes))) => 201,
+        Some(Reply::Windowed(Ok((None, None)))) => 300,
         Some(Reply::Entered(Err(refusal))) => u16::from(refusal.number()),
         Some(Reply::Struck(Err(refusal))) => u16::from(refusal.number()),
         Some(Reply::Settled(Err(refusal))) => u16::from(refusal.number()),
@@ -92,5 +94,36 @@ fn a_life_begins_with_one_to_two_hundred_devices(rt: HostRuntime) -> Result<(), 
     for step in life.as_slice() {
         assert!(rt; step.reply.is_none());
     }
+    Ok(())
+}
+
+// The same calls, with a window and what follows beside them, and settled once more at the end.
+fn more_steps<S: Scale + Clone>(heap: Global) -> Result<Vec<Step<S>>, AllocError> {
+    let mut steps = Vec::new(heap);
+    steps.push(step(heap, Call::Enter(7, before(0, 1)), 0, 0, 0)?)?;
+    steps.push(step(heap, Call::Window(1), 0, 0, 1000)?)?;
+    steps.push(step(heap, Call::Follows(before(0, 1)), 2, 0, 1000)?)?;
+    steps.push(step(heap, Call::Enter(9, before(1, 0)), 0, 0, 0)?)?;
+    steps.push(step(heap, Call::Settle, 2, 400, 1000)?)?;
+    steps.push(step(heap, Call::Strike(7), 0, 0, 0)?)?;
+    steps.push(step(heap, Call::Settle, 2, 400, 1000)?)?;
+    Ok(steps)
+}
+
+// As above, with 201 for yes and 300 for a window with no end.
+const MORE_DUE: [u16; 7] = [0, 300, 201, 0, 102, 0, 100];
+
+#[test]
+fn a_life_with_a_window_and_a_yes(rt: HostRuntime) -> Result<(), Fail> {
+    let mut life = more_steps::<Ticks>(rt.alloc())?;
+    assert!(rt; live(2, life.as_mut_slice()).is_ok());
+    assert_eq!(rt; life.len(), MORE_DUE.len());
+    for (step, due) in life.as_slice().iter().zip(&MORE_DUE) {
+        assert_eq!(rt; outcome(step), *due);
+    }
+    // the clash names the lines 7 and 9, and leaves the rest of its buffer
+    let names = &life[4].names;
+    assert!(rt; names.len() == 400);
+    assert!(rt; names[0] == 7 && names[1] == 9 && names[2] == 0);
     Ok(())
 }

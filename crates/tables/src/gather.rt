@@ -49,7 +49,8 @@ impl Table {
     {
         let mut count = 0;
         for number in 0..NUMBERS {
-            if choice.has(number) {
+            let chosen = choice.has(number);
+            if chosen {
                 count = self.gather_one(number, edges, count);
             }
         }

@@ -2,14 +2,15 @@ use Rattle.std.proofs.Common.{◌<◌, ◌++◌, map, length, sym, refl, ◌∙�
 use Rattle.std.proofs.lemmas.List.{take_all, append-nil}
 use Rattle.engine.specs.Books.{devices_of, sheet_of}
 use Rattle.scales.proofs.Lawful.{laws_of}
+use Rattle.lives.specs.Changes.{SameLengths}
 use Rattle.lives.specs.Lives.{ShowsAll, Lawful}
 use Rattle.lives.specs.Standing.{made}
-use Rattle.lives.proofs.Turns.{turn_shows, turn_lawful, turn_rest}
+use Rattle.lives.proofs.Turns.{turn_shows, turn_lawful, turn_lengths, turn_rest}
 use Rattle.lives.proofs.life.go_on.Goals as goal
 
 pub loop-step-init : goal.loop-step-init
 loop-step-init g c =
-    (refl, (λ past h. subst (ShowsAll (sheet_of c.args.book.now)) (sym (append-nil past)) h), (λ past f i h d. absurd (omega arith)), (λ i d h. refl))
+    (refl, (λ past h. subst (ShowsAll (sheet_of c.args.book.now)) (sym (append-nil past)) h), (λ past f i h d. absurd (omega arith)), (λ i d h. refl), (λ i h d. absurd (omega arith)))
 
 pub loop-step-preserved : goal.loop-step-preserved
 loop-step-preserved g c =
@@ -29,12 +30,14 @@ loop-step-preserved g c =
       (λ past f. turn_shows m laws n _ past c.args.steps.now xs i s t within (c.loop-step.invariant.1 past f) done _ (c.perform.ensures.stands _ (c.loop-step.invariant.1 past f))),
       (λ past f. turn_lawful m laws n _ past c.args.steps.now xs i s t within (c.loop-step.invariant.1 past f) done c.step-item.is c.loop-step.invariant.3 (c.loop-step.invariant.2 past f)),
       turn_rest m laws c.args.steps.now xs i t c.loop-step.invariant.3,
+      turn_lengths c.args.steps.now xs i s t within c.step-item.is c.loop-step.invariant.3 (subst (λ v. SameLengths v t) (sym c.step-item.is) c.perform.ensures.lengths) c.loop-step.invariant.4,
     )
 
 pub returns : goal.returns
 returns g c =
     record {
       devices = c.loop-step.invariant.0;
+      lengths = λ i d h. c.loop-step.invariant.4 i (omega arith) d;
       lived = λ past f. record { all = c.loop-step.auto.steps; each = λ i d h. c.loop-step.invariant.2 past f i (omega arith) d };
       stands = λ past f. subst (λ v. ShowsAll (sheet_of c.loop-step.book) (past ++ map made v)) (take_all c.loop-step.step-index c.loop-step.steps (omega arith)) (c.loop-step.invariant.1 past f);
     }
