@@ -4,8 +4,7 @@ use Rattle.printing.specs.Closings.{closing}
 use Rattle.scales.specs.declared.sums.OrderedSums.{Ghosts}
 use Rattle.scales.specs.contracts.ticks.TicksOrderedSums.TheImpl as ticks
 use Rattle.scales.specs.contracts.stepless.SteplessOrderedSums.TheImpl as stepless
-use Rattle.session.specs.Headings.{Opened, Unopenable}
-use Rattle.session.specs.Headings.{byte_at}
+use Rattle.session.specs.Headings.{Opened, Unopenable, byte_at}
 use Rattle.session.specs.Readings.{Reads}
 use Rattle.session.specs.declared.command.Command.{Command}
 use Rattle.session.specs.declared.fault.Fault.{Fault}
