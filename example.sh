@@ -4,6 +4,7 @@ set -euo pipefail
 root=$(cd "$(dirname "${BASH_SOURCE[0]}")" && pwd)
 session=$(realpath "${1:-$root/crates/stopline/stdin}")
 mkdir -p "$root/target"
+log=$root/target/example.log
 cd "$root/crates/stopline"
-rt check >"$root/target/example.log" 2>&1 || { cat "$root/target/example.log"; exit 1; }
-exec rt run <"$session" 2>>"$root/target/example.log"
+# what the check says, and then what the program says of an error, goes into the log
+rt run <"$session" 2>"$log" || { status=$?; cat "$log" >&2; exit $status; }

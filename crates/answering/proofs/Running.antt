@@ -13,7 +13,7 @@ use Rattle.answering.specs.declared.stop.Stop.TheVariants.{Faulted, Exhausted}
 pub ran_weaker : (r : Result (Unit {0}) Stop) {P Q : Option Fault → Type 0} → ((f : Option Fault) → P f → Q f) → Ran r P → Ran r Q
 ran_weaker (Ok u) w h = w None h
 ran_weaker (Err (Faulted f)) w h = w (Some f) h
-ran_weaker (Err Exhausted) w h = tt
+ran_weaker (Err (Exhausted e)) w h = tt
 
 -- the code that the heading of an opened session gave is its byte at 4
 pub code_read : {cs bs : List ℕ} {s : Commands} {h : Heading} {code : ℕ} → Behind cs s → cs ≡ bs → h ≡ heading_of s → h.code ≡ code → byte_at bs 4 ≡ code

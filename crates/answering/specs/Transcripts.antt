@@ -37,4 +37,4 @@ pub record Transcript (bs out : List ℕ) : Type 0 where
 abbrev pub Ran : Result (Unit {0}) Stop → (Option Fault → Type 0) → Type 0
 Ran (Ok u) P = P None
 Ran (Err (Faulted f)) P = P (Some f)
-Ran (Err Exhausted) P = Unit {0}
+Ran (Err (Exhausted e)) P = Unit {0}

@@ -122,7 +122,7 @@ pub fn transcript(heap: Global, bytes: &[u8]) -> Result<Vec<u8>, AllocError>
     let fault = match run(heap, bytes, &mut out) {
         Ok(()) => None,
         Err(Stop::Faulted(fault)) => Some(fault),
-        Err(Stop::Exhausted) => return Err(AllocError),
+        Err(Stop::Exhausted(error)) => return Err(error),
     };
     add_closing(fault, &mut out)?;
     Ok(out)

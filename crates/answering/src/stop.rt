@@ -8,7 +8,7 @@ use std::alloc::AllocError;
 #[derive(Drop)]
 pub(crate) enum Stop {
     Faulted(Fault),
-    Exhausted,
+    Exhausted(AllocError),
 }
 
 impl From<Fault> for Stop {
@@ -20,9 +20,9 @@ impl From<Fault> for Stop {
 }
 
 impl From<AllocError> for Stop {
-    ghost from_gives = { λ _ r. r ≡ Exhausted };
+    ghost from_gives = { λ error r. r ≡ Exhausted error };
 
-    fn from(_error: AllocError) -> Stop {
-        Stop::Exhausted
+    fn from(error: AllocError) -> Stop {
+        Stop::Exhausted(error)
     }
 }

@@ -15,14 +15,6 @@ pub record Bound (X : Type 0) : Type 0 where
 abbrev pub largest : ℕ
 largest = 1000150
 
--- the largest size that a time found may have: two such times can still be added
-abbrev pub farthest : ℕ
-farthest = 3000000000
-
--- the largest size that a start may have: with 202 bounds of the largest size, one after another, it stays below `farthest`
-abbrev pub deepest : ℕ
-deepest = 2000000000
-
 -- how many strides below zero a low start must lie: twice n + 3, where n is 200. What n + 3 bounds reach from the start then
 -- lies nearer to the start, and what they reach from the origin nearer to zero
 abbrev pub strides : ℕ

@@ -1,4 +1,5 @@
 pub mod Depth
 pub mod Lawful
 pub mod Order
+pub mod Printing
 pub mod Readings

@@ -33,6 +33,9 @@ module _ {S : Type 0} (m : Ghosts S) (laws : Laws m) where
   pub weaken : (x y : Time) → Before m x y → NotAfter m x y
   weaken x y h = ⊎_elim (λ l. l) (λ l. absurd (h l)) (laws.total x y)
 
+  pub before_then : (x y z : Time) → Before m x y → NotAfter m y z → Before m x z
+  before_then x y z h k back = h (laws.transitive y z x k back)
+
   pub then_before : (x y z : Time) → NotAfter m x y → Before m y z → Before m x z
   then_before x y z h k back = k (laws.transitive z x y back h)
 
@@ -51,6 +54,9 @@ module _ {S : Type 0} (m : Ghosts S) (laws : Laws m) where
   -- what is added on both sides can be taken off
   pub unshifted : (x y z : Time) → NotAfter m (plus x z) (plus y z) → NotAfter m x y
   unshifted x y z h = along (add_less x z) (add_less y z) (laws.shifted _ _ (opposed z) h)
+
+  pub shifted_before : (x y z : Time) → Before m x y → Before m (plus x z) (plus y z)
+  shifted_before x y z h back = h (unshifted y x z back)
 
   pub sum_mono : (a b c d : Time) → NotAfter m a b → NotAfter m c d → NotAfter m (plus a c) (plus b d)
   sum_mono a b c d h k = laws.transitive _ _ _ (laws.shifted a b c h) (along (laws.commutative c b) (laws.commutative d b) (laws.shifted c d b k))

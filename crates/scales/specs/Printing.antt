@@ -1,8 +1,7 @@
 -- How long printed times are, and that different ones differ.
-use Rattle.std.specs.Prelude.{◌≡◌, ℕ, zero, suc, ◌^◌, ◌<◌, ◌≤◌, true, false, List, [], ◌∷◌, ◌++◌, length, ℤ, pos, negsuc, decimal, ◌≢◌, int_lt, unsigned_abs, refl}
+use Rattle.std.specs.Prelude.{◌≡◌, ℕ, zero, suc, ◌^◌, ◌<◌, ◌≤◌, List, [], ◌∷◌, ◌++◌, length, ℤ, pos, negsuc, decimal, ◌≢◌, unsigned_abs, refl}
 use Rattle.std.proofs.Common.{sym, ap, subst, ◌∙◌, arith, length-append}
 use Rattle.std.specs.Int.Signed.{mag}
-use Rattle.std.proofs.lemmas.Int.{ints}
 use Rattle.std.specs.Str.Parse.{AllDigits}
 use Rattle.std.specs.Char.{digit_value}
 use Rattle.std.specs.Fmt.{signed_decimal}
@@ -89,12 +88,3 @@ shown_legible x y g h e =
     let both = signed_front x.ms y.ms (shown_steps x.steps) (shown_steps y.steps) (omega arith) (omega arith) (steps_stop x.steps) (steps_stop y.steps) e in
     let steps = steps_legible x.steps y.steps (omega arith) (omega arith) both.1 in
     ap (λ c. pair c x.steps) both.0 ∙ ap (pair y.ms) steps
-
-pub steps_below : (k : ℤ) → int_lt k (pos 0) ≡ true → shown_steps k ≡ 45 ∷ decimal (unsigned_abs k)
-steps_below (pos k) h = absurd (grind (arith, ints))
-steps_below (negsuc k) h = refl
-
-pub steps_above : (k : ℤ) → int_lt k (pos 0) ≡ false → (k ≢ pos 0) → shown_steps k ≡ 43 ∷ decimal (unsigned_abs k)
-steps_above (pos zero) h ne = absurd (ne refl)
-steps_above (pos (suc k)) h ne = refl
-steps_above (negsuc k) h ne = absurd (grind (arith, ints))

@@ -1,4 +1,4 @@
--- What holds of every table.
+-- What holds of every table and every choice.
 use Rattle.std.proofs.Common.{◌≡◌, ℕ, ◌≤◌, length}
 use Rattle.lines.specs.Proper.{Proper}
 use Rattle.lines.specs.declared.line.Line.{Line}
@@ -6,6 +6,9 @@ use Rattle.tables.specs.Of.{devices_of, records_of}
 use Rattle.tables.specs.Tables.{Shows}
 use Rattle.tables.specs.declared.table.Table.{Table}
 use Rattle.tables.proofs.Records.{shown_proper}
+
+pub some : (t : Table) → 1 ≤ devices_of t
+some t = t.some
 
 pub few : (t : Table) → devices_of t ≤ 200
 few t = t.few

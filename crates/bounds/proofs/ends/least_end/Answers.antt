@@ -2,7 +2,7 @@ use Rattle.std.proofs.Common.{◌≡◌, ◌+◌, ◌≤◌, sym, refl, ap, subs
 use Rattle.scales.specs.Order.{NotAfter}
 use Rattle.scales.proofs.Lawful.{laws_of}
 use Rattle.scales.proofs.Order.{along}
-use Rattle.bounds.specs.Bounds.{bounds, times_of, farthest, largest, strides}
+use Rattle.bounds.specs.Bounds.{bounds, times_of, largest, strides}
 use Rattle.bounds.proofs.Grounds.{ready_grounded}
 use Rattle.bounds.proofs.Holding.{free, held_least}
 use Rattle.bounds.proofs.Rows.{times_read, passed, failed}
@@ -24,7 +24,7 @@ found g c =
     c.index-times-device.is
 
 -- it is not large
-small : (g : given.Over) (c : After-index-times-device g) → g.S.OrderedSums.size (g.S.OrderedSums.means c.index-times-device.result) ≤ farthest
+small : (g : given.Over) (c : After-index-times-device g) → g.S.OrderedSums.size (g.S.OrderedSums.means c.index-times-device.result) ≤ 3000000000
 small g c = omega (arith, c.if-not-least_times.ensures.small c.args.device (omega (arith, c.requires.within)), ap g.S.OrderedSums.size (found g c), c.requires.few, c.requires.size)
 
 pub held_by_start-requires : goal.held_by_start-requires

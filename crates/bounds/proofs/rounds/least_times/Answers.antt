@@ -1,7 +1,7 @@
 use Rattle.std.proofs.Common.{◌≡◌, suc, ◌+◌, ◌-◌, length, sym, ◌∙◌, subst, add-one, arith}
 use Rattle.scales.proofs.Lawful.{laws_of}
 use Rattle.scales.proofs.Order.{along}
-use Rattle.bounds.specs.Bounds.{Ready, bounds, times_of, deepest}
+use Rattle.bounds.specs.Bounds.{Ready, bounds, times_of}
 use Rattle.bounds.specs.Rounds.{Changed}
 use Rattle.bounds.proofs.Grounds.{ready_grounded}
 use Rattle.bounds.proofs.Progress.{Progress, progress_none, progress_more, arrived_size, arrived_more, settles, runs_out, lifts}
@@ -30,7 +30,7 @@ raise_all-requires g c =
       rows = c.loop-round.auto.spare ∙ c.requires.rows.1 ∙ sym long;
       some = omega arith;
       ready = subst (λ k. Ready m k c.args.weights.now c.args.edges.now) last c.requires.ready;
-      small = λ x l. omega (arith, arrived_size m laws n bs (ready_grounded m laws n c.args.weights.now c.args.edges.now c.requires.ready) start c.loop-round._round (times_of m c.loop-round.times) deepest c.requires.size (c.loop-round.invariant start c.begin.ensures).arrived x (omega arith), c.requires.few, c.loop-round-test.true);
+      small = λ x l. omega (arith, arrived_size m laws n bs (ready_grounded m laws n c.args.weights.now c.args.edges.now c.requires.ready) start c.loop-round._round (times_of m c.loop-round.times) 2000000000 c.requires.size (c.loop-round.invariant start c.begin.ensures).arrived x (omega arith), c.requires.few, c.loop-round-test.true);
     }
 
 pub returns-then-settled : goal.returns-then-settled

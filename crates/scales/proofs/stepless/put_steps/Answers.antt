@@ -2,7 +2,7 @@ use Rattle.std.proofs.Common.{◌≡◌, true, false, ◌∷◌, pos, nat_abs, d
 use lib.Signed.{lt_z}
 use Rattle.std.proofs.lemmas.Int.{to_z-of_z}
 use Rattle.scales.specs.Pairs.{shown_steps}
-use Rattle.scales.specs.Printing.{steps_below, steps_above}
+use Rattle.scales.proofs.Printing.{steps_below, steps_above}
 use Rattle.writing.proofs.Puts.{put_then, put_as}
 use Rattle.scales.proofs.stepless.put_steps.Goals as goal
 use Rattle.scales.proofs.stepless.put_steps.Goals.{then-steps-lt0, else-steps-lt0, After-unsigned_abs}
