@@ -1,7 +1,6 @@
 -- A session that ran to its end or to a fault.
 use Rattle.std.proofs.Common.{◌≡◌, ℕ, List, Some, None, Ok, Err, Option, Result, sym, ap, ◌∙◌}
-use Rattle.session.specs.Headings.{byte_at}
-use Rattle.session.specs.Headings.{Behind}
+use Rattle.session.specs.Headings.{Behind, byte_at}
 use Rattle.session.specs.Stages.{heading_of}
 use Rattle.session.specs.declared.fault.Fault.{Fault}
 use Rattle.session.specs.declared.heading.Heading.{Heading}

@@ -1,9 +1,7 @@
 -- What lawful calls answer is exact.
-use Rattle.std.proofs.Common.{◌≡◌, ℕ, ◌+◌, ◌-◌, ◌≤◌, List, get_or, drop, Some, Ok, Err, vec_items, Result, sym, refl, ap, ◌∙◌, arith}
+use Rattle.std.proofs.Common.{◌≡◌, ℕ, ◌+◌, ◌-◌, ◌≤◌, List, get_or, drop, Some, Ok, vec_items, sym, refl, ap, ◌∙◌, arith}
 use Rattle.std.proofs.lemmas.List.{get_or-drop}
 use Rattle.bounds.specs.Bounds.{times_of}
-use Rattle.engine.specs.Calls.{Settles}
-use Rattle.engine.specs.declared.refusal.Refusal.{Refusal}
 use Rattle.lines.specs.Keeping.{Keeps, KeepsAll}
 use Rattle.lines.specs.Quarrels.{Sheet, standing}
 use Rattle.lines.specs.Timetables as timetables
@@ -14,13 +12,11 @@ use Rattle.verdicts.specs.declared.following.Followed.{Followed}
 use Rattle.verdicts.specs.declared.following.Followed.TheVariants.{Yes, No}
 use Rattle.verdicts.specs.declared.settling.Settled.{Settled}
 use Rattle.verdicts.specs.declared.settling.Settled.TheVariants.{Times, Clash}
-use Rattle.lives.specs.Answers.{Makes}
 use Rattle.lives.specs.Exact.{Exact, ExactAnswers}
 use Rattle.lives.specs.Lives.{Lawful}
-use Rattle.lives.specs.declared.steps.Call.{Call}
-use Rattle.lives.specs.declared.steps.Call.TheVariants.{Enter, Strike, Settle, Window, Follows}
 use Rattle.lives.specs.declared.steps.Reply.TheVariants as reply
 use Rattle.lives.specs.declared.steps.Step.{Step}
+use Rattle.lives.proofs.Tells.{settles}
 
 -- behind their front two lists are the same
 pub same_behind : {X : Type 0} (n : ℕ) (a b : List X) → drop n a ≡ drop n b → (k : ℕ) (d : X) → n ≤ k → get_or a k d ≡ get_or b k d
@@ -41,23 +37,11 @@ module _ {S : Type 0} (m : Ghosts S) (n : ℕ) (sheet : Sheet) (s t : Step S) wh
   no_no l Yes shown follows = refl
   no_no l No shown follows = let w = shown refl in absurd (w.1 (follows (times_of m (vec_items t.times)) w.0))
 
-  settled_behind : (r : Result Settled Refusal) (work c : ℕ) (times times' : List S) (names names' : List ℕ) → r ≡ Ok (Clash c) → Settles m n sheet work times names r times' names' → drop c names' ≡ drop c names
-  settled_behind (Ok Times) work c times times' names names' e h = absurd (let z : ◌≡◌ {A = ℕ} 0 1 = cc in omega arith)
-  settled_behind (Ok (Clash k)) work c times times' names names' e h = let is : k ≡ c = cc in rw (sym is) h.1.2
-  settled_behind (Err x) work c times times' names names' e h = absurd (let z : ◌≡◌ {A = ℕ} 0 1 = cc in omega arith)
-
-  names_behind : (c : Call) → Makes m c n sheet s t → (k : ℕ) → t.reply ≡ Some (reply.Settled (Ok (Clash k))) → drop k (vec_items t.names) ≡ drop k (vec_items s.names)
-  names_behind (Enter j a) h k e = let p = h.1 in absurd (let z : ◌≡◌ {A = ℕ} 0 1 = cc in omega arith)
-  names_behind (Strike j) h k e = let p = h.1 in absurd (let z : ◌≡◌ {A = ℕ} 0 1 = cc in omega arith)
-  names_behind Settle h k e = let p = h.1 in let is : h.0 ≡ Ok (Clash k) = cc in settled_behind h.0 _ k _ _ _ _ is h.2
-  names_behind (Window x) h k e = let p = h.1 in absurd (let z : ◌≡◌ {A = ℕ} 0 1 = cc in omega arith)
-  names_behind (Follows a) h k e = let p = h.1 in absurd (let z : ◌≡◌ {A = ℕ} 0 1 = cc in omega arith)
-
   exact : Lawful m n sheet s t → Exact m sheet s t
   exact l = record {
     clash = λ a e. no_times a (λ is. l.clash.1 (e ∙ ap (λ b. Some (reply.Settled (Ok b))) is));
     follows = λ a line called w f e. no_no line f (λ is. (l.follows a line called w).1 (e ∙ ap (λ g. Some (reply.Followed (Ok g))) is));
-    behind = λ c e k h. same_behind c (vec_items t.names) (vec_items s.names) (names_behind s.call l.answers.1 c e) k 0 h;
+    behind = λ c e k d h. same_behind c (vec_items t.names) (vec_items s.names) (settles m n sheet s t s.call l.answers.1 (Ok (Clash c)) e).1.2 k d h;
   }
 
 pub exact_answers : {S : Type 0} (m : Ghosts S) → ExactAnswers m

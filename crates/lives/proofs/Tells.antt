@@ -1,5 +1,5 @@
 -- What the answer of a call tells of the lines that stood.
-use Rattle.std.proofs.Common.{◌≡◌, ℕ, List, take, Some, Ok, Err, Option, Result, refl, subst, inl, inr, ⊎_elim, arith}
+use Rattle.std.proofs.Common.{◌≡◌, ℕ, List, length, vec_items, Some, Ok, Err, Option, Result, refl, subst, inl, inr, ⊎_elim, arith}
 use Rattle.engine.specs.Calls.{FollowsAs, Settles}
 use Rattle.engine.specs.Records.{Entered, Struck}
 use Rattle.engine.specs.declared.refusal.Refusal.{Refusal}
@@ -36,29 +36,23 @@ module _ {S : Type 0} (m : Ghosts S) where
   quarrel_clashes sheet ks q t keeps = q.clash t (λ l u. keeps l (u.0, u.2))
 
   module _ (n : ℕ) (sheet : Sheet) (s t : Step S) where
-    settled_quarrel : (r : Result Settled Refusal) (c work : ℕ) (times times' : List S) (names names' : List ℕ) → r ≡ Ok (Clash c) → Settles m n sheet work times names r times' names' → Quarrel m sheet (take c names')
-    settled_quarrel (Ok (Clash d)) c work times times' names names' e h = let same : d ≡ c = cc in subst (λ k. Quarrel m sheet (take k names')) same h.1.0
-    settled_quarrel (Ok Times) c work times times' names names' e h = absurd (let z : ◌≡◌ {A = ℕ} 0 1 = cc in omega arith)
-    settled_quarrel (Err x) c work times times' names names' e h = absurd (let z : ◌≡◌ {A = ℕ} 0 1 = cc in omega arith)
-
-    settled_kept : (r : Result Settled Refusal) (work : ℕ) (times times' : List S) (names names' : List ℕ) → r ≡ Ok Times → Settles m n sheet work times names r times' names' → Keepable m (standing sheet)
-    settled_kept (Ok Times) work times times' names names' e h = (_, h.1.0.keeps)
-    settled_kept (Ok (Clash d)) work times times' names names' e h = absurd (let z : ◌≡◌ {A = ℕ} 0 1 = cc in omega arith)
-    settled_kept (Err x) work times times' names names' e h = absurd (let z : ◌≡◌ {A = ℕ} 0 1 = cc in omega arith)
+    -- the answer of a settle is that of a call that settles
+    pub settles : (c : Call) → Makes m c n sheet s t → (r : Result Settled Refusal) → t.reply ≡ Some (reply.Settled r)
+        → Settles m n sheet (length (vec_items s.work)) (vec_items s.times) (vec_items s.names) r (vec_items t.times) (vec_items t.names)
+    settles (Enter k a) h r e = let p = h.1 in absurd (let z : ◌≡◌ {A = ℕ} 0 1 = cc in omega arith)
+    settles (Strike k) h r e = let p = h.1 in absurd (let z : ◌≡◌ {A = ℕ} 0 1 = cc in omega arith)
+    settles Settle h r e =
+        let p = h.1 in
+        let is : h.0 ≡ r = cc in
+        subst (λ v. Settles m n sheet (length (vec_items s.work)) (vec_items s.times) (vec_items s.names) v (vec_items t.times) (vec_items t.names)) is h.2
+    settles (Window x) h r e = let p = h.1 in absurd (let z : ◌≡◌ {A = ℕ} 0 1 = cc in omega arith)
+    settles (Follows a) h r e = let p = h.1 in absurd (let z : ◌≡◌ {A = ℕ} 0 1 = cc in omega arith)
 
     names_quarrel : (c : Call) → Makes m c n sheet s t → NamesQuarrel m sheet t
-    names_quarrel (Enter k a) h = λ c e. let p = h.1 in absurd (let z : ◌≡◌ {A = ℕ} 0 1 = cc in omega arith)
-    names_quarrel (Strike k) h = λ c e. let p = h.1 in absurd (let z : ◌≡◌ {A = ℕ} 0 1 = cc in omega arith)
-    names_quarrel Settle h = λ c e. let p = h.1 in let is : h.0 ≡ Ok (Clash c) = cc in settled_quarrel h.0 c _ _ _ _ _ is h.2
-    names_quarrel (Window x) h = λ c e. let p = h.1 in absurd (let z : ◌≡◌ {A = ℕ} 0 1 = cc in omega arith)
-    names_quarrel (Follows a) h = λ c e. let p = h.1 in absurd (let z : ◌≡◌ {A = ℕ} 0 1 = cc in omega arith)
+    names_quarrel c h k e = (settles c h (Ok (Clash k)) e).1.0
 
     tells_kept : (c : Call) → Makes m c n sheet s t → t.reply ≡ Some (reply.Settled (Ok Times)) → Keepable m (standing sheet)
-    tells_kept (Enter k a) h e = let p = h.1 in absurd (let z : ◌≡◌ {A = ℕ} 0 1 = cc in omega arith)
-    tells_kept (Strike k) h e = let p = h.1 in absurd (let z : ◌≡◌ {A = ℕ} 0 1 = cc in omega arith)
-    tells_kept Settle h e = let p = h.1 in let is : h.0 ≡ Ok Times = cc in settled_kept h.0 _ _ _ _ _ is h.2
-    tells_kept (Window x) h e = let p = h.1 in absurd (let z : ◌≡◌ {A = ℕ} 0 1 = cc in omega arith)
-    tells_kept (Follows a) h e = let p = h.1 in absurd (let z : ◌≡◌ {A = ℕ} 0 1 = cc in omega arith)
+    tells_kept c h e = (_, (settles c h (Ok Times) e).1.0.keeps)
 
     tells_clash : (c : Call) → Makes m c n sheet s t → TellsClash m sheet t
     tells_clash c h = ((λ k e. quarrel_clashes sheet _ (names_quarrel c h k e)), tells_kept c h)

@@ -1,5 +1,5 @@
 -- Answers that are not refused are exact: what is so is told.
-use Rattle.std.specs.Prelude.{◌≡◌, ℕ, ◌<◌, ◌≤◌, List, map, length, take, Some, Ok, vec_items, slice_index, slice_index_or}
+use Rattle.std.specs.Prelude.{◌≡◌, ℕ, ◌<◌, ◌≤◌, List, map, length, take, Some, Ok, vec_items, slice_index_or}
 use Rattle.verdicts.specs.declared.following.Followed.{Followed}
 use Rattle.verdicts.specs.declared.following.Followed.TheVariants.{Yes}
 use Rattle.verdicts.specs.declared.settling.Settled.{Settled}
@@ -24,7 +24,7 @@ module _ {S : Type 0} (m : Ghosts S) where
     -- where the asked line follows from them, a follows says yes
     pub follows : (a : Asked) (l : Line) → t.call ≡ Follows a → Writes a l → (f : Followed) → t.reply ≡ Some (reply.Followed (Ok f)) → timetables.Follows m (standing sheet) l → f ≡ Yes
     -- and behind the lines that a clash names, the names are as they were
-    pub behind : (c : ℕ) → t.reply ≡ Some (reply.Settled (Ok (Clash c))) → (k : ℕ) → c ≤ k → slice_index (vec_items t.names) k ≡ slice_index (vec_items s.names) k
+    pub behind : (c : ℕ) → t.reply ≡ Some (reply.Settled (Ok (Clash c))) → (k e : ℕ) → c ≤ k → slice_index_or (vec_items t.names) k e ≡ slice_index_or (vec_items s.names) k e
 
   -- all calls of a life are so, for what stands after the calls made before
   abbrev pub ExactAnswers : Type 0

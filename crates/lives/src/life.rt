@@ -1,10 +1,9 @@
-ghost use Rattle.std.specs.Prelude.{◌≡◌, ◌≤◌, List, [], ◌∷◌, ◌++◌, map, MatchResult};
+ghost use Rattle.std.specs.Prelude.{◌≡◌, ◌≤◌, List, [], ◌∷◌, ◌++◌, map, true, MatchResult};
 ghost use Rattle.engine.specs.Books.{devices_of, records_of, sheet_of};
 ghost use Rattle.engine.specs.declared.refusal.Refusal.TheVariants.{Devices};
 ghost use Rattle.engine.specs.Checks.{Granted, Refused, begin_checks};
 ghost use Rattle.lives.specs.Changes.{AllSameLengths, Changes, SameLengths};
 ghost use Rattle.lives.specs.Determined.{OneLife};
-ghost use Rattle.lives.specs.Exact.{ExactAnswers};
 ghost use Rattle.lives.specs.Lives.{Lawful, Lived, LivedOn, ShowsAll};
 ghost use Rattle.lives.specs.Standing.{Made, made};
 
@@ -71,16 +70,10 @@ pub fn live<S: Scale>(devices: u8, steps: &mut [Step<S>]) -> Result<Book<S>, Ref
     Ok(book)
 }
 
-// The rules of lives leave no choice but that of a clash set. The value carries nothing.
+// The rules of lives leave no choice but that of a clash set. The value is always true.
 pub fn one_life<S: Scale>() -> bool
-    ensures { OneLife S.OrderedSums }
-{
-    true
-}
-
-// Whatever calls answer is exact: a clash and what follows are told wherever they are so. The value carries nothing.
-pub fn exact_answers<S: Scale>() -> bool
-    ensures { ExactAnswers S.OrderedSums }
+    ensures one { OneLife S.OrderedSums }
+    ensures value { result ≡ true }
 {
     true
 }

@@ -119,27 +119,14 @@ fn read_commands(bytes: &[u8]) -> Result<Heading, Fault> {
     }
 }
 
-fn check_stop(
-    rt: &impl Abort,
-    bytes: &[u8],
-    cause: Cause,
-    place: usize,
-    layer: Layer,
-) -> Result<(), Fail> {
-    match read_commands(bytes) {
-        Ok(_) => Err(Fail::new("no fault")),
-        Err(fault) => {
-            assert_eq!(rt;
-                fault,
-                Fault {
-                    cause,
-                    place,
-                    layer,
-                }
-            );
-            Ok(())
-        },
-    }
+// Checks that reading a session's commands comes to this fault.
+fn check_stop(rt: &impl Abort, bytes: &[u8], cause: Cause, place: usize, layer: Layer) {
+    let due = Fault {
+        cause,
+        place,
+        layer,
+    };
+    assert_eq!(rt; read_commands(bytes).err(), Some(due));
 }
 
 // A session with one of each command, and a byte behind its end.
@@ -224,21 +211,21 @@ fn bytes_that_end_early_name_the_layer(rt: HostRuntime) -> Result<(), Fail> {
         } else {
             Layer::Operand
         };
-        check_stop(&rt, &COMMANDS[0..length], Cause::EndsEarly, length, layer)?;
+        check_stop(&rt, &COMMANDS[0..length], Cause::EndsEarly, length, layer);
     }
     assert!(rt; read_commands(&COMMANDS).is_ok());
     Ok(())
 }
 
 #[test]
-fn another_command_is_unknown_behind_others(rt: HostRuntime) -> Result<(), Fail> {
+fn another_command_is_unknown_behind_others(rt: HostRuntime) {
     check_stop(
         &rt,
         b"STOP\x00\x02TT\x00Z",
         Cause::UnknownCommand,
         8,
         Layer::Command,
-    )
+    );
 }
 
 #[test]

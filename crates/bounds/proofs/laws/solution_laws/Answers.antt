@@ -1,3 +1,4 @@
+use Rattle.std.proofs.Common.{refl}
 use Rattle.scales.proofs.Lawful.{laws_of}
 use Rattle.bounds.proofs.Holding.{lowering}
 use Rattle.bounds.proofs.Solutions.{closed, mirrored}
@@ -7,4 +8,4 @@ pub returns : goal.returns
 returns g c =
     let m = g.S.OrderedSums in
     let laws = laws_of g.met.S.OrderedSums in
-    record { closed = closed m laws; mirrored = mirrored m laws; lowered = lowering m laws }
+    record { closed = closed m laws; mirrored = mirrored m laws; lowered = lowering m laws; value = refl }

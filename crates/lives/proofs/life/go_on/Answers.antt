@@ -5,7 +5,7 @@ use Rattle.scales.proofs.Lawful.{laws_of}
 use Rattle.lives.specs.Changes.{SameLengths}
 use Rattle.lives.specs.Lives.{ShowsAll, Lawful}
 use Rattle.lives.specs.Standing.{made}
-use Rattle.lives.proofs.Turns.{turn_shows, turn_lawful, turn_lengths, turn_rest}
+use Rattle.lives.proofs.Turns.{turn_on, turn_shows, turn_lawful, turn_rest}
 use Rattle.lives.proofs.life.go_on.Goals as goal
 
 pub loop-step-init : goal.loop-step-init
@@ -30,7 +30,7 @@ loop-step-preserved g c =
       (λ past f. turn_shows m laws n _ past c.args.steps.now xs i s t within (c.loop-step.invariant.1 past f) done _ (c.perform.ensures.stands _ (c.loop-step.invariant.1 past f))),
       (λ past f. turn_lawful m laws n _ past c.args.steps.now xs i s t within (c.loop-step.invariant.1 past f) done c.step-item.is c.loop-step.invariant.3 (c.loop-step.invariant.2 past f)),
       turn_rest m laws c.args.steps.now xs i t c.loop-step.invariant.3,
-      turn_lengths c.args.steps.now xs i s t within c.step-item.is c.loop-step.invariant.3 (subst (λ v. SameLengths v t) (sym c.step-item.is) c.perform.ensures.lengths) c.loop-step.invariant.4,
+      turn_on (λ _. SameLengths) c.args.steps.now xs i s t within c.step-item.is c.loop-step.invariant.3 (subst (λ v. SameLengths v t) (sym c.step-item.is) c.perform.ensures.lengths) c.loop-step.invariant.4,
     )
 
 pub returns : goal.returns
