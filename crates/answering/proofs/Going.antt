@@ -1,5 +1,5 @@
 -- A session that is answered up to a place.
-use Rattle.std.proofs.Common.{◌≡◌, ℕ, List, [], ◌∷◌, ◌++◌, map, length, Some, None, Option, sym, refl, ap, ◌∙◌, subst, append_assoc, arith}
+use Rattle.std.proofs.Common.{◌≡◌, ℕ, List, [], ◌∷◌, ◌++◌, map, length, Some, None, Ok, Err, Option, sym, refl, ap, ◌∙◌, subst, append_assoc, arith}
 use mathlib.Core.List.{map-append}
 use Rattle.std.proofs.ByRecursion.{All-push}
 use Rattle.std.proofs.lemmas.List.{append-nil, length-map}
@@ -10,33 +10,34 @@ use Rattle.lives.proofs.Longer.{lived_more}
 use Rattle.lives.proofs.Turns.{lawful_stands}
 use Rattle.lives.specs.Lives.{Lawful, Lived, ShowsAll}
 use Rattle.lives.specs.Standing.{Stands, made}
-use Rattle.lives.specs.declared.steps.Call.{Call}
+use Rattle.lines.specs.declared.call.Call.{Call}
 use Rattle.lives.specs.declared.steps.Step.{Step}
 use Rattle.scales.proofs.Lawful.{Laws}
 use Rattle.scales.specs.declared.sums.OrderedSums.{Ghosts}
 use Rattle.session.proofs.Sofar as sofar
 use Rattle.session.proofs.Sofar.{Sofar}
-use Rattle.session.specs.Commands.{Closes, Spelt, Stops, behind}
-use Rattle.session.specs.Headings.{Opened, byte_at}
+use Rattle.session.specs.Commands.{Closes, Spelt, Stops}
+use Rattle.session.specs.Headings.{Behind, byte_at}
 use Rattle.session.specs.Readings.{Reads}
-use Rattle.session.specs.declared.command.Command.{Command}
+use Rattle.session.specs.Stages.{Gives, bytes_of, place_of}
 use Rattle.session.specs.declared.fault.Fault.{Fault}
-use Rattle.answering.specs.Calls.{asking, call_of}
+use Rattle.session.specs.declared.reader.Commands.{Commands}
 use Rattle.answering.specs.Conversations.{Ample, lines_of}
-use Rattle.answering.specs.Responses.{Performed, line_for}
+use Rattle.answering.specs.Responses.{Performed, asking, line_for}
 use Rattle.answering.specs.Transcripts.{Conversed}
 
 abbrev call_in : {S : Type 0} → Step S → Call
 call_in s = s.call
 
 module _ {S : Type 0} (m : Ghosts S) where
-  -- the commands so far were made in turn, with their lines behind what was there before
-  pub record Going (bs : List ℕ) (book : Book S) (step : Step S) (place : ℕ) (before out : List ℕ) : Type 0 where
-    pub commands : List Command
-    pub read : Sofar bs commands place
+  -- the calls up to the reader were made in turn, with their lines behind what was there before
+  pub record Going (bs : List ℕ) (book : Book S) (step : Step S) (reader : Commands) (before out : List ℕ) : Type 0 where
+    pub bytes : bytes_of reader ≡ bs
+    pub commands : List Call
+    pub read : Sofar bs commands (place_of reader)
     pub asked : List (Step S)
     pub done : List (Step S)
-    pub calls : map call_in asked ≡ map call_of commands
+    pub calls : map call_in asked ≡ commands
     pub ample : AllByRecursion (Ample (byte_at bs 5)) asked
     pub lived : Lived m (byte_at bs 5) asked done
     pub devices : devices_of book ≡ byte_at bs 5
@@ -44,10 +45,11 @@ module _ {S : Type 0} (m : Ghosts S) where
     pub room : Ample (byte_at bs 5) step
     pub lines : out ≡ before ++ lines_of m (byte_at bs 5) commands done
 
-  pub begun : (bs : List ℕ) (book : Book S) (step : Step S) (before : List ℕ) → Opened bs → devices_of book ≡ byte_at bs 5 → ShowsAll {S = S} (sheet_of book) [] → Ample (byte_at bs 5) step → Going bs book step 6 before before
-  begun bs book step before o devices shows room = record {
+  pub begun : (book : Book S) (step : Step S) (reader : Commands) (before : List ℕ) → let bs = bytes_of reader in Behind bs reader → devices_of book ≡ byte_at bs 5 → ShowsAll {S = S} (sheet_of book) [] → Ample (byte_at bs 5) step → Going bs book step reader before before
+  begun book step reader before behind devices shows room = record {
+    bytes = refl;
     commands = [];
-    read = sofar.begun o;
+    read = subst (Sofar (bytes_of reader) []) (sym behind.place) (sofar.begun behind.opened);
     asked = [];
     done = [];
     calls = refl;
@@ -59,26 +61,25 @@ module _ {S : Type 0} (m : Ghosts S) where
     lines = sym (append-nil before);
   }
 
-  lines_more : (n : ℕ) (cs : List Command) (ts : List (Step S)) (c : Command) (t : Step S) → length ts ≡ length cs → lines_of m n (cs ++ c ∷ []) (ts ++ t ∷ []) ≡ lines_of m n cs ts ++ line_for m n c t
+  lines_more : (n : ℕ) (cs : List Call) (ts : List (Step S)) (c : Call) (t : Step S) → length ts ≡ length cs → lines_of m n (cs ++ c ∷ []) (ts ++ t ∷ []) ≡ lines_of m n cs ts ++ line_for m n c t
   lines_more n [] [] c t e = append-nil (line_for m n c t)
   lines_more n [] (u ∷ ts) c t e = absurd (omega arith)
   lines_more n (d ∷ cs) [] c t e = absurd (omega arith)
   lines_more n (d ∷ cs) (u ∷ ts) c t e = ap (λ (x : List ℕ). line_for m n d u ++ x) (lines_more n cs ts c t (omega arith)) ∙ sym (append_assoc (line_for m n d u) (lines_of m n cs ts) (line_for m n c t))
 
-  module _ (laws : Laws m) {bs : List ℕ} {book : Book S} {step : Step S} {place : ℕ} {before out : List ℕ} (going : Going bs book step place before out) where
+  module _ (laws : Laws m) {bs : List ℕ} {book : Book S} {step : Step S} {reader : Commands} {before out : List ℕ} (going : Going bs book step reader before out) where
     abbrev n : ℕ
     n = byte_at bs 5
 
     as_many : length going.done ≡ length going.commands
     as_many =
         let a = length-map going.asked call_in in
-        let b = length-map going.commands call_of in
         let c = going.lived.all in
         let d = ap length going.calls in
         omega arith
 
     -- one more command
-    module _ (c : Command) (book' : Book S) (t : Step S) (performed : Performed m c book step book' t) where
+    module _ (c : Call) (book' : Book S) (t : Step S) (performed : Performed m c book step book' t) where
       next_lawful : Lawful m n (Stands (map made going.done)) (asking c step) t
       next_lawful =
           lawful_stands m laws n (sheet_of book) (map made going.done) (asking c step) t going.shows
@@ -101,13 +102,14 @@ module _ {S : Type 0} (m : Ghosts S) where
           ∙ append_assoc before (lines_of m n cs ts) (line_for m n c t)
           ∙ ap (λ (x : List ℕ). before ++ x) (sym (lines_more n cs ts c t as_many))
 
-      pub one_more : Spelt bs place c → (out' : List ℕ) → out' ≡ out ++ line_for m (devices_of book) c t → Going bs book' t (behind place c) before out'
-      one_more spelt out' e = record {
+      pub one_more : (rest : Commands) → Gives reader (Ok (Some (c, rest))) → (out' : List ℕ) → out' ≡ out ++ line_for m (devices_of book) c t → Going bs book' t rest before out'
+      one_more rest gives out' e = record {
+        bytes = gives.1 ∙ going.bytes;
         commands = going.commands ++ c ∷ [];
-        read = sofar.one_more going.read spelt;
+        read = subst (Sofar bs (going.commands ++ c ∷ [])) (sym gives.2) (sofar.one_more going.read (subst (λ (cs : List ℕ). Spelt cs (place_of reader) c) going.bytes gives.0));
         asked = going.asked ++ asking c step ∷ [];
         done = going.done ++ t ∷ [];
-        calls = map-append call_in going.asked (asking c step ∷ []) ∙ ap (λ (x : List Call). x ++ call_of c ∷ []) going.calls ∙ sym (map-append call_of going.commands (c ∷ []));
+        calls = map-append call_in going.asked (asking c step ∷ []) ∙ ap (λ (x : List Call). x ++ c ∷ []) going.calls;
         ample = All-push (Ample n) going.asked (asking c step) going.ample (record { times = going.room.times; names = going.room.names; work = going.room.work });
         lived = lived_more m n going.asked going.done (asking c step) t going.lived next_lawful;
         devices = performed.devices ∙ going.devices;
@@ -128,8 +130,8 @@ module _ {S : Type 0} (m : Ghosts S) where
       going.lines,
     )
 
-    pub ended : Closes bs place → (more : List ℕ) × Conversed m bs None more × (out ≡ before ++ more)
-    ended z = over (sofar.ended going.read z)
+    pub ended : Gives reader (Ok None) → (more : List ℕ) × Conversed m bs None more × (out ≡ before ++ more)
+    ended z = over (sofar.ended going.read (subst (λ (cs : List ℕ). Closes cs (place_of reader)) going.bytes z))
 
-    pub faulted : (f : Fault) → Stops bs place f → (more : List ℕ) × Conversed m bs (Some f) more × (out ≡ before ++ more)
-    faulted f s = over (sofar.faulted going.read s)
+    pub faulted : (f : Fault) → Gives reader (Err f) → (more : List ℕ) × Conversed m bs (Some f) more × (out ≡ before ++ more)
+    faulted f s = over (sofar.faulted going.read (subst (λ (cs : List ℕ). Stops cs (place_of reader) f) going.bytes s))

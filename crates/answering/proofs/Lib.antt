@@ -1,4 +1,3 @@
 pub mod Going
-pub mod Lining
 pub mod Running
 pub mod Showing

@@ -11,8 +11,8 @@ use Rattle.lines.specs.declared.line.Line.{Line}
 use Rattle.lives.specs.Answers.{Makes}
 use Rattle.lives.specs.Changes.{SameLengths}
 use Rattle.lives.specs.Lives.{Lawful}
-use Rattle.lives.specs.declared.steps.Call.{Call}
-use Rattle.lives.specs.declared.steps.Call.TheVariants.{Enter, Strike, Settle, Window, Follows}
+use Rattle.lines.specs.declared.call.Call.{Call}
+use Rattle.lines.specs.declared.call.Call.TheVariants.{Enter, Strike, Settle, Window, Follows}
 use Rattle.lives.specs.declared.steps.Step.{Step}
 use Rattle.printing.specs.Shown.{Shown, ShownFollowed, ShownReply, ShownSettled, ShownWindow}
 use Rattle.scales.specs.declared.sums.OrderedSums.{Ghosts}

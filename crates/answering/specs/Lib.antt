@@ -1,4 +1,3 @@
-pub mod Calls
 pub mod Conversations
 pub mod Responses
 pub mod Transcripts

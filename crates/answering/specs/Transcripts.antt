@@ -6,7 +6,7 @@ use Rattle.scales.specs.contracts.ticks.TicksOrderedSums.TheImpl as ticks
 use Rattle.scales.specs.contracts.stepless.SteplessOrderedSums.TheImpl as stepless
 use Rattle.session.specs.Headings.{Opened, Unopenable, byte_at}
 use Rattle.session.specs.Readings.{Reads}
-use Rattle.session.specs.declared.command.Command.{Command}
+use Rattle.lines.specs.declared.call.Call.{Call}
 use Rattle.session.specs.declared.fault.Fault.{Fault}
 use Rattle.answering.specs.Conversations.{Answered}
 use Rattle.answering.specs.declared.stop.Stop.{Stop}
@@ -16,7 +16,7 @@ module _ {S : Type 0} (m : Ghosts S) where
   -- an opened session that reads as commands and then the end or a fault, with the lines of its commands
   pub record Conversed (bs : List ℕ) (fault : Option Fault) (out : List ℕ) : Type 0 where
     pub opened : Opened bs
-    pub commands : List Command
+    pub commands : List Call
     pub reads : Reads bs commands fault
     pub answers : Answered m (byte_at bs 5) commands out
 

@@ -1,7 +1,6 @@
 // A session answered: each command is performed in a book, and its line printed.
 #![tactic(auto)]
 
-mod calls;
 mod responses;
 mod run;
 mod stop;

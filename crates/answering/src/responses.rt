@@ -1,34 +1,53 @@
-ghost use Rattle.std.specs.Prelude.{◌≤◌, length, IfOk, MatchResult};
+ghost use Rattle.std.specs.Prelude.{◌≡◌, ◌≤◌, length, IfOk, MatchResult};
+ghost use Rattle.engine.specs.Books.{devices_of};
 ghost use Rattle.printing.specs.Closings.{closing};
-ghost use Rattle.answering.specs.Responses.{Lined, Responds, Unlined};
+ghost use Rattle.answering.specs.Responses.{Lined, Performed, Responds, Unlined, line_for};
 
-use crate::calls::call_of;
 use engine::{Book, Refusal};
+use lines::Call;
 use lives::{Step, perform};
-use printing::{put_closing, put_line};
+use printing::{Line, call_line, closing_line};
 use scales::Scale;
-use session::{Command, Fault};
+use session::{Fault, letter};
 
-// The least length of a buffer for a line.
-pub(crate) const ROOM: usize = 8192;
+// The least length of a buffer for a line, which is lent.
+const ROOM: usize = 8192;
 
-// Performs a command in the book, with the buffers of the step, whose call and reply become those of the command, and writes its line at
+// Makes a call of the book, with the buffers of the step, whose call and reply become this call and its reply. Gives its line.
+pub(crate) fn answer<S: Scale>(book: &mut Book<S>, call: Call, step: &mut Step<S>) -> Line
+    ensures performed { Performed S.OrderedSums call book.old step.old book.new step.new }
+    ensures line { result ≡ line_for S.OrderedSums (devices_of book.old) call step.new }
+{
+    step.call = call;
+    perform(book, step);
+    call_line(letter(call), book.devices() as usize, step)
+}
+
+// Copies a text to the front of a buffer, and answers how long it is.
+fn copy_to_front(text: &Line, line: &mut [u8]) -> usize
+    requires { 8192 ≤ length line.old }
+    ensures { Lined text.now line.old result line.new }
+{
+    let bytes = text.as_slice();
+    line[..bytes.len()].copy_from_slice(bytes);
+    bytes.len()
+}
+
+// Makes a call of the book, with the buffers of the step, whose call and reply become this call and its reply, and writes its line at
 // the front of `line`. Answers how long the line is; a buffer that is too short is refused, and then nothing is performed.
 pub fn respond<S: Scale>(
     book: &mut Book<S>,
-    command: Command,
+    call: Call,
     step: &mut Step<S>,
     line: &mut [u8],
 ) -> Result<usize, Refusal>
     ensures within { IfOk result (λ k. k ≤ length line.old) }
-    ensures responds { Responds S.OrderedSums command book.old step.old line.old result book.new step.new line.new }
+    ensures responds { Responds S.OrderedSums call book.old step.old line.old result book.new step.new line.new }
 {
     if line.len() < ROOM {
         return Err(Refusal::Buffer);
     }
-    step.call = call_of(command);
-    perform(book, step);
-    Ok(put_line(line, command.letter(), book.devices() as usize, step))
+    Ok(copy_to_front(&answer(book, call, step), line))
 }
 
 // Writes the line of a session's end, or of its fault, at the front of `line`. Answers how long it is; a buffer that is too
@@ -40,5 +59,5 @@ pub fn close(fault: Option<Fault>, line: &mut [u8]) -> Result<usize, Refusal>
     if line.len() < ROOM {
         return Err(Refusal::Buffer);
     }
-    Ok(put_closing(line, fault))
+    Ok(copy_to_front(&closing_line(fault), line))
 }

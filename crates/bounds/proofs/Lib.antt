@@ -2,6 +2,7 @@ pub mod Counts
 pub mod Grounds
 pub mod Holding
 pub mod Lowering
+pub mod Pairs
 pub mod Partial
 pub mod Picks
 pub mod Progress

@@ -5,7 +5,6 @@ use Rattle.std.proofs.lemmas.List.{get_or_default}
 use Rattle.scales.specs.declared.sums.OrderedSums.{Ghosts}
 use Rattle.scales.specs.Order.{NotAfter}
 use Rattle.scales.proofs.Lawful.{Laws}
-use Rattle.scales.proofs.Order.{same}
 use Rattle.bounds.specs.declared.edge.Edge.{Edge}
 use Rattle.bounds.specs.Bounds.{bound_of, bounds, times_of, asked}
 use Rattle.bounds.specs.Rounds.{Raised, Cause, Round}
@@ -19,13 +18,6 @@ pub record Partial {S : Type 0} (m : Ghosts S) (weights : List S) (es : List Edg
   pub why : (x : ℕ) → (times_of m new x ≡ times_of m old x) ⊎ Cause m (bounds m weights es) (times_of m old) x (times_of m new x)
 
 module _ {S : Type 0} (m : Ghosts S) (laws : Laws m) (weights : List S) (es : List Edge) (old : List S) where
-  pub partial_none : (new : List S) → new ≡ old → Partial m weights es old new 0
-  partial_none new e = record {
-    up = λ x. same m laws (ap (λ l. times_of m l x) (sym e));
-    held = λ j d h. absurd (omega arith);
-    why = λ x. inl (ap (λ l. times_of m l x) e);
-  }
-
   -- `e` is only what stands for an edge past the end
   pub partial_more : (new after : List S) (i : ℕ) (e : Edge) → i < length es → Raised m (bound_of m weights (get_or es i e)) old new after → Partial m weights es old new i → Partial m weights es old after (i + 1)
   partial_more new after i e l r p = record {

@@ -1,11 +1,12 @@
 -- Rows of values, and the times that they mean.
-use Rattle.std.proofs.Common.{◌≡◌, ℕ, ◌<◌, true, false, T, ◌≢◌, List, map, length, get_or, set, sym, refl, ap, ◌∙◌, subst, inl, inr, ⊎_elim, arith}
+use Rattle.std.proofs.Common.{◌≡◌, ℕ, zero, suc, ◌<◌, true, false, T, ◌≢◌, List, [], ◌∷◌, map, length, get_or, set, sym, refl, ap, ◌∙◌, subst, inl, inr, ⊎_elim, arith}
+use Rattle.std.specs.List.{FoldsTo}
 use Rattle.std.proofs.lemmas.List.{get_or-map, map-set, get_or-set_same, get_or-set_other, length-map}
 use Rattle.std.proofs.lemmas.Bool.{cases_eq}
 use Rattle.scales.specs.declared.sums.OrderedSums.{Ghosts}
 use Rattle.scales.specs.Order.{NotAfter, Before}
 use Rattle.scales.proofs.Lawful.{Laws}
-use Rattle.scales.proofs.Order.{itself, same, along, weaken}
+use Rattle.scales.proofs.Order.{same, along, weaken}
 use Rattle.bounds.specs.Bounds.{Bound, times_of, asked}
 use Rattle.bounds.specs.Rounds.{Raised}
 
@@ -30,11 +31,14 @@ module _ {S : Type 0} (m : Ghosts S) where
   times_set_other row i x v ne =
       ap (λ ts. get_or ts x m.zero) (map-set m.means row i v) ∙ get_or-set_other (map m.means row) i x (m.means v) m.zero ne
 
-  module _ (laws : Laws m) (b : Bound m.Time) (old before : List S) where
-    -- the bound asks for no more than there is
-    pub raised_kept : NotAfter m (asked m (times_of m old) b) (times_of m before b.at) → Raised m b old before before
-    raised_kept h = record { up = λ x. itself m laws _; held = h; why = λ x. inl refl }
+  -- a row that a closure filled, which gave a value of the same time at each call, and stayed as it was
+  pub filled : {P : Type 0} (R : P → S → P → Type 0) (t : m.Time) (f : P) → ((y : S) (q : P) → R f y q → (q ≡ f) × (m.means y ≡ t)) → (row : List S) (p last : P) → p ≡ f → FoldsTo R p row last → (x : ℕ) → x < length row → times_of m row x ≡ t
+  filled R t f step [] p last e ran x h = absurd (omega arith)
+  filled R t f step (y ∷ row) p last e ran zero h = (step y ran.0 (subst (λ s. R s y ran.0) e ran.1)).1
+  filled R t f step (y ∷ row) p last e ran (suc x) h =
+      filled R t f step row ran.0 last (step y ran.0 (subst (λ s. R s y ran.0) e ran.1)).0 ran.2 x (omega arith)
 
+  module _ (laws : Laws m) (b : Bound m.Time) (old before : List S) where
     -- what it asks for is written
     pub raised_set : (v : S) → b.at < length before → m.means v ≡ asked m (times_of m old) b → Before m (times_of m before b.at) (m.means v) → Raised m b old before (set before b.at v)
     raised_set v l e more =

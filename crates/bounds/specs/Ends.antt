@@ -1,9 +1,8 @@
 -- The least time of one device over all solutions, wherever they lie.
-use Rattle.std.specs.Prelude.{◌≡◌, ℕ, ◌≤◌, List}
+use Rattle.std.specs.Prelude.{◌≡◌, ℕ, ◌≤◌, List, Some, None, Ok, Err, Option, Result}
 use Rattle.scales.specs.Order.{NotAfter, Before}
 use Rattle.scales.specs.declared.sums.OrderedSums.{Ghosts}
-use Rattle.bounds.specs.declared.ends.End.{End}
-use Rattle.bounds.specs.declared.ends.End.TheVariants.{Unmet, Free, At}
+use Rattle.bounds.specs.declared.system.Unmet.{Unmet}
 use Rattle.bounds.specs.Bounds.{Bound, Times, Meets, Solves}
 
 module _ {S : Type 0} (m : Ghosts S) where
@@ -12,7 +11,7 @@ module _ {S : Type 0} (m : Ghosts S) where
   Attains n bs x v = (s : Times m) × Solves m n bs s × (s x ≡ v)
 
   -- x has no times at all, or no least time, or this one, which is not large
-  abbrev pub LeastEnd : ℕ → List (Bound m.Time) → ℕ → End S → Type 0
-  LeastEnd n bs x Unmet = (s : Times m) → Meets m bs s → ⊥
-  LeastEnd n bs x Free = (v : m.Time) → (s : Times m) × Solves m n bs s × Before m (s x) v
-  LeastEnd n bs x (At v) = Attains n bs x (m.means v) × ((s : Times m) → Solves m n bs s → NotAfter m (m.means v) (s x)) × (m.size (m.means v) ≤ 3000000000)
+  abbrev pub LeastEnd : ℕ → List (Bound m.Time) → ℕ → Result (Option S) Unmet → Type 0
+  LeastEnd n bs x (Err u) = (s : Times m) → Meets m bs s → ⊥
+  LeastEnd n bs x (Ok None) = (v : m.Time) → (s : Times m) × Solves m n bs s × Before m (s x) v
+  LeastEnd n bs x (Ok (Some v)) = Attains n bs x (m.means v) × ((s : Times m) → Solves m n bs s → NotAfter m (m.means v) (s x)) × (m.size (m.means v) ≤ 3000000000)

@@ -1,9 +1,10 @@
 -- What can be said of least times under bounds.
-use Rattle.std.specs.Prelude.{ℕ, ◌+◌, ◌*◌, ◌<◌, ◌≤◌, Bool, true, false, List}
+use Rattle.std.specs.Prelude.{ℕ, ◌+◌, ◌*◌, ◌<◌, ◌≤◌, List, Ok, Err, Result}
 use Rattle.scales.specs.Low.{Low}
 use Rattle.scales.specs.Order.{NotAfter}
 use Rattle.scales.specs.declared.sums.OrderedSums.{Ghosts}
 use Rattle.bounds.specs.Bounds.{Bound, Times, Meets, Solves, NowhereBefore, largest}
+use Rattle.bounds.specs.declared.system.Unmet.{Unmet}
 use Rattle.bounds.specs.Reach.{Source, Reached}
 
 module _ {S : Type 0} (m : Ghosts S) where
@@ -20,6 +21,7 @@ module _ {S : Type 0} (m : Ghosts S) where
     pub above : (s : Times m) → Solves m n bs s → NowhereBefore m n start s → ⊥
     pub anywhere : Low m largest (n + 2) start → (s : Times m) → Meets m bs s → ⊥
 
-  abbrev pub Searched : ℕ → List (Bound m.Time) → m.Time → Times m → Bool → Type 0
-  Searched n bs start t true = Least n bs start t
-  Searched n bs start t false = NoTimes n bs start
+  -- the least times were found, or there are none
+  abbrev pub Searched : ℕ → List (Bound m.Time) → m.Time → Times m → Result (Unit {0}) Unmet → Type 0
+  Searched n bs start t (Ok u) = Least n bs start t
+  Searched n bs start t (Err u) = NoTimes n bs start

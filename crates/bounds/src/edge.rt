@@ -2,8 +2,9 @@ ghost use Rattle.std.specs.Prelude.{◌≡◌, map};
 ghost use Rattle.bounds.specs.Mirror.{exchanged};
 
 // A bound as it is handed in: the time at `at` is not before the time at `from` and a weight together. The weight is the
-// one at that place of a row of weights, or its opposite. Devices go by their numbers, and the origin by the number behind the last.
-#[derive(Clone, Copy)]
+// one at that place of a row of weights, or, where it is opposed, its opposite. Devices go by their numbers, and the origin by the number
+// behind the last. The flag stays beside the place: both kinds have one, so that an enum of the two would read no plainer.
+#[derive(Clone, Copy, Debug, Default, PartialEq, Eq)]
 pub struct Edge {
     pub at: u8,
     pub from: u8,

@@ -6,10 +6,10 @@ mod edge;
 mod ends;
 mod laws;
 mod rounds;
+mod system;
 #[cfg(test)]
 mod tests;
 
 pub use edge::{Edge, turn};
-pub use ends::{End, least_end};
 pub use laws::solution_laws;
-pub use rounds::least_times;
+pub use system::{System, Unmet};

@@ -1,6 +1,7 @@
-ghost use Rattle.std.specs.Prelude.{◌≡◌, ◌<◌, ◌≤◌, T, length};
+ghost use Rattle.std.specs.Prelude.{◌≡◌, ◌<◌, ◌≤◌, length, IfSome};
 ghost use Rattle.std.specs.List.{AllByRecursion};
-ghost use Rattle.bounds.specs.Bounds.{Ready, largest};
+ghost use Rattle.std.proofs.Props.{props};
+ghost use Rattle.bounds.specs.Bounds.{largest};
 
 use crate::*;
 use scales::{OrderedSums, Scale, Stepless, Ticks, low_start};
@@ -32,20 +33,35 @@ const FOUR: u16 = 2;
 
 const FIVE: u16 = 3;
 
-// Whether each edge stands among so many devices and the origin, and its weight in the row.
-fn ready<S: OrderedSums>(devices: usize, edges: &[Edge], weights: &[S]) -> bool
-    requires { AllByRecursion (λ w. S.OrderedSums.size (S.OrderedSums.means w) ≤ largest) weights.now }
-    ensures { T result → Ready S.OrderedSums devices weights.now edges.now }
+// A row of weights, none of which is too large.
+#[derive(Drop)]
+struct Weights<'a, S: OrderedSums> {
+    row: &'a [S],
+    ghost light: { AllByRecursion (λ w. S.OrderedSums.size (S.OrderedSums.means w) ≤ largest) row.now } by { Prim.hlevel props },
+}
+
+// The system of the edges, where each stands among so many devices and the origin, with its weight in the row.
+fn system<'e, 'w, S: OrderedSums>(
+    devices: usize,
+    edges: &'e [Edge],
+    weights: &Weights<'w, S>,
+) -> Option<System<'e, 'w, S>>
+    requires { devices ≤ 200 }
+    ensures { IfSome result (λ s. s.devices ≡ devices) }
 {
     for edge in edges {
         if edge.at as usize > devices
             || edge.from as usize > devices
-            || edge.weight as usize >= weights.len()
+            || edge.weight as usize >= weights.row.len()
         {
-            return false;
+            return None;
         }
     }
-    true
+    Some(System {
+        devices,
+        edges,
+        weights: weights.row,
+    })
 }
 
 // `at` is not before `from` and the weight together.
@@ -72,23 +88,32 @@ fn below(from: u8, at: u8, weight: u16) -> Edge {
 fn find<S: Scale>(
     rt: &impl Abort,
     edges: &[Edge],
-    weights: &[S],
+    weights: &Weights<'_, S>,
     times: &mut [S],
     spare: &mut [S],
 ) -> Result<bool, Fail>
-    requires light { AllByRecursion (λ w. S.OrderedSums.size (S.OrderedSums.means w) ≤ largest) weights.now }
     requires some { (0 < length times.old) × (length times.old ≤ 201) }
     requires rows { length spare.old ≡ length times.old }
 {
     let devices = times.len() - 1;
-    assert!(rt; ready(devices, edges, weights));
-    Ok(least_times(devices, edges, weights, low_start(), times, spare))
+    let Some(system) = system(devices, edges, weights) else {
+        return Err(Fail::new("an edge does not fit"));
+    };
+    Ok(system.least_times(low_start(), times, spare).is_ok())
 }
 
 #[test]
 fn a_device_with_no_bounds_stays_at_the_start(rt: HostRuntime) -> Result<(), Fail> {
     let mut times = [Ticks { ms: 7 }; 2];
-    assert!(rt; find(&rt, &[], &TICKS, &mut times, &mut [Ticks { ms: 7 }; 2])?);
+    assert!(rt;
+        find(
+            &rt,
+            &[],
+            &Weights { row: &TICKS },
+            &mut times,
+            &mut [Ticks { ms: 7 }; 2]
+        )?
+    );
     assert!(rt; times[0].ms == LOW && times[1].ms == 0);
     Ok(())
 }
@@ -101,11 +126,10 @@ fn alike<S: OrderedSums>(one: S, other: S) -> bool {
 // Checks that one device with no bounds stays at the start, and the origin at zero.
 fn check_alone<S: Scale>(
     rt: &impl Abort,
-    weights: &[S],
+    weights: &Weights<'_, S>,
     times: &mut [S],
     spare: &mut [S],
 ) -> Result<(), Fail>
-    requires light { AllByRecursion (λ w. S.OrderedSums.size (S.OrderedSums.means w) ≤ largest) weights.now }
     requires rows { (length times.old ≡ 2) × (length spare.old ≡ 2) }
 {
     assert!(rt; find(rt, &[], weights, times, spare)?);
@@ -117,7 +141,7 @@ fn check_alone<S: Scale>(
 fn with_no_bounds_ticks_stay_at_the_start(rt: HostRuntime) -> Result<(), Fail> {
     check_alone(
         &rt,
-        &TICKS,
+        &Weights { row: &TICKS },
         &mut [Ticks { ms: 7 }; 2],
         &mut [Ticks { ms: 7 }; 2],
     )
@@ -127,13 +151,14 @@ fn with_no_bounds_ticks_stay_at_the_start(rt: HostRuntime) -> Result<(), Fail> {
 fn with_no_bounds_stepless_times_stay_at_the_start(rt: HostRuntime) -> Result<(), Fail> {
     check_alone(
         &rt,
-        &STEPLESS,
+        &Weights { row: &STEPLESS },
         &mut [Stepless { ms: 7, steps: 7 }; 2],
         &mut [Stepless { ms: 7, steps: 7 }; 2],
     )
 }
 
-// The first of 200 devices is not before the origin, and each other is a step after the one before.
+// The first of 200 devices is not before the origin, and each other is a step after the one before. Devices go by numbers, which the
+// loop counts.
 fn chain() -> [Edge; 200] {
     let mut edges = [above(0, 200, ZERO); 200];
     for device in 1..200u8 {
@@ -149,7 +174,7 @@ fn a_chain_of_ticks_rises_step_by_step(rt: HostRuntime) -> Result<(), Fail> {
         find(
             &rt,
             &chain(),
-            &TICKS,
+            &Weights { row: &TICKS },
             &mut times,
             &mut [Ticks { ms: 7 }; 201]
         )?
@@ -167,7 +192,7 @@ fn a_chain_of_stepless_times_rises_step_by_step(rt: HostRuntime) -> Result<(), F
         find(
             &rt,
             &chain(),
-            &STEPLESS,
+            &Weights { row: &STEPLESS },
             &mut times,
             &mut [Stepless { ms: 7, steps: 7 }; 201],
         )?
@@ -185,14 +210,7 @@ fn a_chain_of_stepless_times_rises_step_by_step(rt: HostRuntime) -> Result<(), F
 #[derive(Clone, Copy)]
 struct Case {
     edges: [Edge; 2],
-    least: Least,
-}
-
-#[derive(Clone, Copy)]
-enum Least {
-    Unmet,
-    Free,
-    At(u16),
+    least: Result<Option<u16>, Unmet>,
 }
 
 fn cases() -> [Case; 7] {
@@ -200,46 +218,50 @@ fn cases() -> [Case; 7] {
         // Held from above only, or not at all.
         Case {
             edges: [below(0, 2, FOUR), above(0, 1, FIVE)],
-            least: Least::Free,
+            least: Ok(None),
         },
         Case {
             edges: [above(0, 1, ZERO), above(1, 0, ZERO)],
-            least: Least::Free,
+            least: Ok(None),
         },
         // Held by the origin, twice alike, or through the other device, or from both sides.
         Case {
             edges: [above(0, 2, FIVE), above(0, 2, FIVE)],
-            least: Least::At(FIVE),
+            least: Ok(Some(FIVE)),
         },
         Case {
             edges: [above(1, 2, FOUR), above(0, 1, ZERO)],
-            least: Least::At(FOUR),
+            least: Ok(Some(FOUR)),
         },
         Case {
             edges: [above(0, 2, FIVE), below(0, 2, FIVE)],
-            least: Least::At(FIVE),
+            least: Ok(Some(FIVE)),
         },
         // A cycle that gains, and one through the origin.
         Case {
             edges: [above(0, 1, STEP), above(1, 0, ZERO)],
-            least: Least::Unmet,
+            least: Err(Unmet),
         },
         Case {
             edges: [above(0, 2, FIVE), below(0, 2, FOUR)],
-            least: Least::Unmet,
+            least: Err(Unmet),
         },
     ]
 }
 
 // Whether the end is the one that a case asks for.
-fn agrees<S: OrderedSums>(least: Least, end: End<S>, weights: &[S]) -> bool {
+fn agrees<S: OrderedSums>(
+    least: Result<Option<u16>, Unmet>,
+    end: Result<Option<S>, Unmet>,
+    weights: &Weights<'_, S>,
+) -> bool {
     match (least, end) {
-        (Least::Unmet, End::Unmet) => true,
-        (Least::Free, End::Free) => true,
-        (Least::At(place), End::At(time)) => {
-            let place = place as usize;
-            place < weights.len() && alike(time, weights[place])
-        }
+        (Err(Unmet), Err(Unmet)) => true,
+        (Ok(None), Ok(None)) => true,
+        (Ok(Some(place)), Ok(Some(time))) => match weights.row.get(place as usize) {
+            Some(weight) => alike(time, *weight),
+            None => false,
+        },
         _ => false,
     }
 }
@@ -247,16 +269,17 @@ fn agrees<S: OrderedSums>(least: Least, end: End<S>, weights: &[S]) -> bool {
 // Checks every case.
 fn check_ends<S: Scale>(
     rt: &impl Abort,
-    weights: &[S],
+    weights: &Weights<'_, S>,
     times: &mut [S],
     spare: &mut [S],
 ) -> Result<(), Fail>
-    requires light { AllByRecursion (λ w. S.OrderedSums.size (S.OrderedSums.means w) ≤ largest) weights.now }
     requires rows { (length times.old ≡ 3) × (length spare.old ≡ 3) }
 {
     for case in cases() {
-        assert!(rt; ready(2, &case.edges, weights));
-        let end = least_end(2, &case.edges, weights, low_start(), 0, times, spare);
+        let Some(system) = system(2, &case.edges, weights) else {
+            return Err(Fail::new("an edge does not fit"));
+        };
+        let end = system.least_end(low_start(), 0, times, spare);
         assert!(rt; agrees(case.least, end, weights));
     }
     Ok(())
@@ -266,7 +289,7 @@ fn check_ends<S: Scale>(
 fn ends_of_ticks_agree(rt: HostRuntime) -> Result<(), Fail> {
     check_ends(
         &rt,
-        &TICKS,
+        &Weights { row: &TICKS },
         &mut [Ticks { ms: 7 }; 3],
         &mut [Ticks { ms: 7 }; 3],
     )
@@ -276,7 +299,7 @@ fn ends_of_ticks_agree(rt: HostRuntime) -> Result<(), Fail> {
 fn ends_of_stepless_times_agree(rt: HostRuntime) -> Result<(), Fail> {
     check_ends(
         &rt,
-        &STEPLESS,
+        &Weights { row: &STEPLESS },
         &mut [Stepless { ms: 7, steps: 7 }; 3],
         &mut [Stepless { ms: 7, steps: 7 }; 3],
     )
@@ -286,5 +309,5 @@ fn ends_of_stepless_times_agree(rt: HostRuntime) -> Result<(), Fail> {
 fn turning_exchanges_the_ends(rt: HostRuntime) {
     let mut edges = [above(0, 2, FIVE), below(1, 0, STEP)];
     turn(&mut edges);
-    assert!(rt; edges[0].at == 2 && edges[0].from == 0 && edges[1].at == 1 && edges[1].from == 0);
+    assert_eq!(rt; edges, [above(2, 0, FIVE), below(0, 1, STEP)]);
 }

@@ -1,7 +1,6 @@
-// What a session answers: one printed line for each command, and one for a fault.
+// What a session prints, as long as the command that ends it is the only one: the line of its end or of its fault.
 #![tactic(auto)]
 
-mod lines;
 mod run;
 #[cfg(test)]
 mod tests;

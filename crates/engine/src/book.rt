@@ -40,14 +40,15 @@ impl<S: Scale> Book<S> {
         self.table.devices()
     }
 
-    // The line to be entered, or the first refusal that applies.
+    // The line to be entered, or the first refusal that applies. Three of the checks are those of `follows`, amid others: in one list they are
+    // read beside the list that is promised.
     fn judge(&self, number: u16, asked: Asked) -> Result<Line, Refusal>
         ensures { MatchResult result (λ l. Granted (enter_checks (devices_of self.now) (sheet_of self.now) number asked) × Writes asked l × (proper (devices_of self.now) l ≡ true)) (Refused (enter_checks (devices_of self.now) (sheet_of self.now) number asked)) }
     {
         if number > 399 {
             return Err(Refusal::LineNumber);
         }
-        let op = Operator::read(asked.op).ok_or(Refusal::OperatorByte)?;
+        let op = Operator::try_from(asked.op)?;
         if asked.is_foreign(self.table.devices()) {
             return Err(Refusal::DeviceNumber);
         }

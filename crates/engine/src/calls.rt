@@ -8,7 +8,7 @@ use lines::{Asked, Operator};
 use scales::Scale;
 use verdicts::{Followed, Settled};
 
-// The least lengths of the buffers for names and for work.
+// The least lengths of the buffers for names and for work. A book's calls are lent all memory that they use.
 const NAMES: usize = 400;
 
 const WORK: usize = 1000;
@@ -41,7 +41,7 @@ impl<S: Scale> Book<S> {
         if work.len() < WORK {
             return Err(Refusal::Buffer);
         }
-        verdicts::window(&self.table, device, work).ok_or(Refusal::Clash)
+        Ok(verdicts::window(&self.table, device, work)?)
     }
 
     // Whether every timetable that keeps the standing lines keeps the line that is asked for. If not, the first timetable of the
@@ -54,7 +54,7 @@ impl<S: Scale> Book<S> {
     ) -> Result<Followed, Refusal>
         ensures { FollowsAs S.OrderedSums (devices_of self.now) (sheet_of self.now) asked (length work.old) times.old result times.new }
     {
-        let op = Operator::read(asked.op).ok_or(Refusal::OperatorByte)?;
+        let op = Operator::try_from(asked.op)?;
         let devices = self.table.devices();
         if asked.is_foreign(devices) {
             return Err(Refusal::DeviceNumber);

@@ -1,8 +1,8 @@
-ghost use Rattle.std.specs.Prelude.{◌≡◌, MatchOption};
+ghost use Rattle.std.specs.Prelude.{◌≡◌, MatchResult};
 ghost use Rattle.lines.specs.Operators.{Unnamed, byte_of, opposites, strict};
 
 // The five comparisons that a line can make.
-#[derive(Clone, Copy)]
+#[derive(Clone, Copy, Debug, PartialEq, Eq)]
 pub enum Operator {
     Before,
     NotAfter,
@@ -11,21 +11,28 @@ pub enum Operator {
     After,
 }
 
-impl Operator {
-    // The operator that a byte names, if it names one.
-    pub fn read(byte: u8) -> Option<Operator>
-        ensures { MatchOption result (Unnamed byte) (λ op. byte_of op ≡ byte) }
-    {
+// The byte names no operator.
+#[derive(Clone, Copy, Debug, PartialEq, Eq)]
+pub struct NoOperator;
+
+impl TryFrom<u8> for Operator {
+    type Error = NoOperator;
+
+    ghost try_from_gives = { λ byte r. MatchResult r (λ op. byte_of op ≡ byte) (λ _. Unnamed byte) };
+
+    fn try_from(byte: u8) -> Result<Operator, NoOperator> {
         match byte {
-            0x3C => Some(Operator::Before),
-            0x6C => Some(Operator::NotAfter),
-            0x3D => Some(Operator::With),
-            0x67 => Some(Operator::NotBefore),
-            0x3E => Some(Operator::After),
-            _ => None,
+            0x3C => Ok(Operator::Before),
+            0x6C => Ok(Operator::NotAfter),
+            0x3D => Ok(Operator::With),
+            0x67 => Ok(Operator::NotBefore),
+            0x3E => Ok(Operator::After),
+            _ => Err(NoOperator),
         }
     }
+}
 
+impl Operator {
     // The opposites of the operator: the comparison that holds exactly where this one does not, or for "with" the two, before and
     // after, of which one does. `opposite_laws` has the law.
     pub fn opposites(self) -> (Operator, Option<Operator>)
@@ -44,9 +51,6 @@ impl Operator {
     pub(crate) fn is_strict(self) -> bool
         ensures { result ≡ strict self }
     {
-        match self {
-            Operator::Before | Operator::After => true,
-            Operator::NotAfter | Operator::With | Operator::NotBefore => false,
-        }
+        matches!(self, Operator::Before | Operator::After)
     }
 }

@@ -1,36 +1,24 @@
 use crate::*;
+use bounds::Edge;
 use scales::{Scale, Stepless, Ticks};
-use std::test::Fail;
 
 #[test]
 fn five_bytes_name_operators(rt: HostRuntime) {
-    assert!(rt; matches!(Operator::read(b'<'), Some(Operator::Before)));
-    assert!(rt; matches!(Operator::read(b'l'), Some(Operator::NotAfter)));
-    assert!(rt; matches!(Operator::read(b'='), Some(Operator::With)));
-    assert!(rt; matches!(Operator::read(b'g'), Some(Operator::NotBefore)));
-    assert!(rt; matches!(Operator::read(b'>'), Some(Operator::After)));
-    assert!(rt; Operator::read(b'!').is_none() && Operator::read(0).is_none());
+    assert_eq!(rt; Operator::try_from(b'<'), Ok(Operator::Before));
+    assert_eq!(rt; Operator::try_from(b'l'), Ok(Operator::NotAfter));
+    assert_eq!(rt; Operator::try_from(b'='), Ok(Operator::With));
+    assert_eq!(rt; Operator::try_from(b'g'), Ok(Operator::NotBefore));
+    assert_eq!(rt; Operator::try_from(b'>'), Ok(Operator::After));
+    assert_eq!(rt; Operator::try_from(b'!'), Err(NoOperator));
+    assert_eq!(rt; Operator::try_from(0), Err(NoOperator));
 }
 
 #[test]
 fn devices_and_constants_have_limits(rt: HostRuntime) {
-    let pair = Asked {
-        x: 199,
-        op: b'<',
-        right: Right::Device(0),
-    };
+    let pair = Asked::pair(199, b'<', 0);
     assert!(rt; !pair.is_foreign(200) && pair.is_foreign(199));
-    let high = Asked {
-        x: 0,
-        op: b'<',
-        right: Right::Constant(1_000_000),
-    };
-    assert!(rt; !high.is_outside());
-    let higher = Asked {
-        x: 0,
-        op: b'<',
-        right: Right::Constant(1_000_001),
-    };
+    assert!(rt; !Asked::clock(0, b'<', 1_000_000).is_outside());
+    let higher = Asked::clock(0, b'<', 1_000_001);
     assert!(rt; higher.is_outside());
 }
 
@@ -49,19 +37,25 @@ fn before_a_constant_is_a_step_and_not_a_millisecond(rt: HostRuntime) {
 }
 
 #[test]
-fn with_has_two_edges(rt: HostRuntime) -> Result<(), Fail> {
+fn with_has_two_edges(rt: HostRuntime) {
     let line = Line {
         x: 0,
         op: Operator::With,
         right: Right::Constant(7),
     };
     let edges = line.edges(3, 5);
-    assert!(rt; edges.first.at == 0 && edges.first.from == 3 && !edges.first.opposed);
-    match edges.second {
-        None => Err(Fail::new("one edge")),
-        Some(second) => {
-            assert!(rt; second.at == 3 && second.from == 0 && second.opposed && second.weight == 5);
-            Ok(())
-        },
-    }
+    let up = Edge {
+        at: 0,
+        from: 3,
+        weight: 5,
+        opposed: false,
+    };
+    let down = Edge {
+        at: 3,
+        from: 0,
+        weight: 5,
+        opposed: true,
+    };
+    assert_eq!(rt; edges.first, up);
+    assert_eq!(rt; edges.second, Some(down));
 }

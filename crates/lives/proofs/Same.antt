@@ -15,8 +15,8 @@ use Rattle.verdicts.specs.declared.following.Followed.TheVariants.{Yes, No}
 use Rattle.verdicts.specs.declared.settling.Settled.{Settled}
 use Rattle.verdicts.specs.declared.settling.Settled.TheVariants.{Times, Clash}
 use Rattle.lives.specs.Answers.{Answers, Makes, EnterAnswers, StrikeAnswers}
-use Rattle.lives.specs.declared.steps.Call.{Call}
-use Rattle.lives.specs.declared.steps.Call.TheVariants.{Enter, Strike, Settle, Window, Follows}
+use Rattle.lines.specs.declared.call.Call.{Call}
+use Rattle.lines.specs.declared.call.Call.TheVariants.{Enter, Strike, Settle, Window, Follows}
 use Rattle.lives.specs.declared.steps.Step.{Step}
 
 -- the same checks in the same order, each applying when the other does

@@ -16,7 +16,7 @@ use Rattle.tables.proofs.Records.{none_everywhere}
 use Rattle.tables.specs.Tables.{Shows}
 use Rattle.lives.specs.Lives.{ShowsAll}
 use Rattle.lives.specs.Standing.{Made, Stands, Enters, Strikes}
-use Rattle.lives.specs.declared.steps.Call.TheVariants.{Enter, Strike}
+use Rattle.lines.specs.declared.call.Call.TheVariants.{Enter, Strike}
 use Rattle.lives.specs.declared.steps.Reply.TheVariants as reply
 
 nothing_there : {X : Type 0} (e : List X) (x : X) (xs : List X) → [] ≡ e ++ x ∷ xs → ⊥

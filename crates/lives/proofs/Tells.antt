@@ -25,8 +25,8 @@ use Rattle.verdicts.specs.declared.settling.Settled.TheVariants.{Times, Clash}
 use Rattle.tables.specs.Tables.{Shows}
 use Rattle.lives.specs.Answers.{Answers, Makes, EnterAnswers, StrikeAnswers}
 use Rattle.lives.specs.Lives.{TellsClash, NamesQuarrel, TellsFollows, Lawful}
-use Rattle.lives.specs.declared.steps.Call.{Call}
-use Rattle.lives.specs.declared.steps.Call.TheVariants.{Enter, Strike, Settle, Window, Follows}
+use Rattle.lines.specs.declared.call.Call.{Call}
+use Rattle.lines.specs.declared.call.Call.TheVariants.{Enter, Strike, Settle, Window, Follows}
 use Rattle.lives.specs.declared.steps.Reply.TheVariants as reply
 use Rattle.lives.specs.declared.steps.Step.{Step}
 

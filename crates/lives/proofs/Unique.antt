@@ -23,8 +23,8 @@ use Rattle.verdicts.specs.declared.settling.Settled.{Settled}
 use Rattle.verdicts.specs.declared.settling.Settled.TheVariants.{Times, Clash}
 use Rattle.lives.specs.Answers.{Answers, Makes, EnterAnswers, StrikeAnswers}
 use Rattle.lives.specs.Determined.{SameEnd, AlikeReply, the_same, both_clash, same_window, Alike}
-use Rattle.lives.specs.declared.steps.Call.{Call}
-use Rattle.lives.specs.declared.steps.Call.TheVariants.{Enter, Strike, Settle, Window, Follows}
+use Rattle.lines.specs.declared.call.Call.{Call}
+use Rattle.lines.specs.declared.call.Call.TheVariants.{Enter, Strike, Settle, Window, Follows}
 use Rattle.lives.specs.declared.steps.Reply.TheVariants as reply
 use Rattle.lives.specs.declared.steps.Step.{Step}
 use Rattle.lives.proofs.Exact.{same_behind}

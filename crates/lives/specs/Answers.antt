@@ -8,8 +8,8 @@ use Rattle.verdicts.specs.declared.settling.Settled.{Settled}
 use Rattle.lines.specs.Quarrels.{Sheet}
 use Rattle.lines.specs.declared.asked.Asked.{Asked}
 use Rattle.scales.specs.declared.sums.OrderedSums.{Ghosts}
-use Rattle.lives.specs.declared.steps.Call.{Call}
-use Rattle.lives.specs.declared.steps.Call.TheVariants.{Enter, Strike, Settle, Window, Follows}
+use Rattle.lines.specs.declared.call.Call.{Call}
+use Rattle.lines.specs.declared.call.Call.TheVariants.{Enter, Strike, Settle, Window, Follows}
 use Rattle.lives.specs.declared.steps.Reply.TheVariants as reply
 use Rattle.lives.specs.declared.steps.Step.{Step}
 

@@ -4,8 +4,8 @@ use Rattle.engine.specs.Records.{Entered, Struck}
 use Rattle.engine.specs.declared.refusal.Refusal.{Refusal}
 use Rattle.lines.specs.declared.line.Line.{Line}
 use Rattle.lives.specs.Standing.{Made}
-use Rattle.lives.specs.declared.steps.Call.{Call}
-use Rattle.lives.specs.declared.steps.Call.TheVariants.{Enter, Strike, Settle, Window, Follows}
+use Rattle.lines.specs.declared.call.Call.{Call}
+use Rattle.lines.specs.declared.call.Call.TheVariants.{Enter, Strike, Settle, Window, Follows}
 use Rattle.lives.specs.declared.steps.Reply.TheVariants as reply
 use Rattle.lives.specs.declared.steps.Step.{Step}
 

@@ -13,7 +13,7 @@ use Rattle.lines.specs.declared.line.Line.{Line}
 use Rattle.scales.specs.declared.sums.OrderedSums.{Ghosts}
 use Rattle.lives.specs.Lives.{Lived}
 use Rattle.lives.specs.Standing.{Stands, made}
-use Rattle.lives.specs.declared.steps.Call.TheVariants.{Follows}
+use Rattle.lines.specs.declared.call.Call.TheVariants.{Follows}
 use Rattle.lives.specs.declared.steps.Reply.TheVariants as reply
 use Rattle.lives.specs.declared.steps.Step.{Step}
 

@@ -14,7 +14,7 @@ use Rattle.scales.specs.declared.sums.OrderedSums.{Ghosts}
 use Rattle.bounds.specs.Bounds.{times_of}
 use Rattle.lives.specs.Answers.{Answers}
 use Rattle.lives.specs.Standing.{Made, Stands, made}
-use Rattle.lives.specs.declared.steps.Call.TheVariants.{Follows}
+use Rattle.lines.specs.declared.call.Call.TheVariants.{Follows}
 use Rattle.lives.specs.declared.steps.Reply.TheVariants as reply
 use Rattle.lives.specs.declared.steps.Step.{Step}
 

@@ -4,8 +4,8 @@ use Rattle.std.specs.List.{AllByRecursion}
 use Rattle.lines.specs.Asking.{Writes}
 use Rattle.lines.specs.declared.asked.Asked.{Asked}
 use Rattle.lines.specs.declared.line.Line.{Line}
-use Rattle.lives.specs.declared.steps.Call.{Call}
-use Rattle.lives.specs.declared.steps.Call.TheVariants.{Enter, Strike}
+use Rattle.lines.specs.declared.call.Call.{Call}
+use Rattle.lines.specs.declared.call.Call.TheVariants.{Enter, Strike}
 use Rattle.lives.specs.declared.steps.Reply.{Reply}
 use Rattle.lives.specs.declared.steps.Reply.TheVariants as reply
 use Rattle.lives.specs.declared.steps.Step.{Step}

@@ -9,4 +9,4 @@ mod tests;
 
 pub use laws::exact_answers;
 pub use life::{go_on, live, one_life, perform};
-pub use steps::{Call, Reply, Step};
+pub use steps::{Reply, Step};

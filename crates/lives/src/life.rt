@@ -7,11 +7,12 @@ ghost use Rattle.lives.specs.Determined.{OneLife};
 ghost use Rattle.lives.specs.Lives.{Lawful, Lived, LivedOn, ShowsAll};
 ghost use Rattle.lives.specs.Standing.{Made, made};
 
-use crate::steps::{Call, Reply, Step};
+use crate::steps::{Reply, Step};
 use engine::{Book, Refusal};
+use lines::Call;
 use scales::Scale;
 
-// Makes the call of a step, and keeps its answer in the step.
+// Makes the call of a step, and keeps its answer in the step. The call is data that a session was read as, and so an enum and no closure.
 pub fn perform<S: Scale>(book: &mut Book<S>, step: &mut Step<S>)
     ensures devices { devices_of book.new ≡ devices_of book.old }
     ensures records { Changes (devices_of book.old) (records_of book.old) (made step.new) (records_of book.new) }

@@ -1,16 +1,6 @@
 use engine::{Followed, Refusal, Settled};
-use lines::Asked;
+use lines::Call;
 use scales::Scale;
-
-// A call of a book, with its arguments.
-#[derive(Clone, Copy)]
-pub enum Call {
-    Enter(u16, Asked),
-    Strike(u16),
-    Settle,
-    Window(u8),
-    Follows(Asked),
-}
 
 // What a call answered.
 #[derive(Clone, Copy)]

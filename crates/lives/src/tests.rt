@@ -1,13 +1,13 @@
 use crate::*;
 use engine::{Followed, Refusal, Settled};
-use lines::{Asked, Right};
+use lines::{Asked, Call};
 use scales::{OrderedSums, Scale, Stepless, Ticks};
 use std::alloc::{AllocError, Global};
 use std::process::Abort;
 use std::test::Fail;
 
 // A step with buffers of these lengths.
-fn step<S: Scale + Clone>(
+fn step<S: Scale>(
     heap: Global,
     call: Call,
     times: usize,
@@ -24,16 +24,12 @@ fn step<S: Scale + Clone>(
 }
 
 fn before(x: u8, y: u8) -> Asked {
-    Asked {
-        x,
-        op: b'<',
-        right: Right::Device(y),
-    }
+    Asked::pair(x, b'<', y)
 }
 
 // Device 0 before device 1, refused once and granted once; settled with short buffers and with long ones; asked whether 1 before 0
 // follows; entered, which clashes; struck, and settled again.
-fn steps<S: Scale + Clone>(heap: Global) -> Result<Vec<Step<S>>, AllocError> {
+fn steps<S: Scale>(heap: Global) -> Result<Vec<Step<S>>, AllocError> {
     let mut steps = Vec::new(heap);
     steps.push(step(heap, Call::Enter(400, before(0, 1)), 0, 0, 0)?)?;
     steps.push(step(heap, Call::Enter(7, before(0, 1)), 0, 0, 0)?)?;
@@ -48,33 +44,73 @@ fn steps<S: Scale + Clone>(heap: Global) -> Result<Vec<Step<S>>, AllocError> {
     Ok(steps)
 }
 
-// What the calls are to answer: 0 for granted, the number of a refusal, 100 for times, 102 for a clash of two lines, 200 for no.
-const DUE: [u16; 10] = [8, 0, 10, 100, 200, 0, 102, 23, 0, 22];
+// What a call that is granted answers.
+#[derive(Clone, Copy, Debug, PartialEq)]
+enum Answer {
+    Done,
+    Times,
+    Clash(u16),
+    // a window, and whether it has an earliest and a latest time
+    Window(bool, bool),
+    Yes,
+    No,
+}
 
-fn outcome<S: Scale>(step: &Step<S>) -> u16 {
-    match step.reply {
-        Some(Reply::Entered(Ok(()))) | Some(Reply::Struck(Ok(()))) => 0,
-        Some(Reply::Settled(Ok(Settled::Times))) => 100,
-        Some(Reply::Settled(Ok(Settled::Clash(2)))) => 102,
-        Some(Reply::Followed(Ok(Followed::No))) => 200,
-        Some(Reply::Followed(Ok(Followed::Yes))) => 201,
-        Some(Reply::Windowed(Ok((None, None)))) => 300,
-        Some(Reply::Entered(Err(refusal))) => u16::from(refusal.number()),
-        Some(Reply::Struck(Err(refusal))) => u16::from(refusal.number()),
-        Some(Reply::Settled(Err(refusal))) => u16::from(refusal.number()),
-        Some(Reply::Windowed(Err(refusal))) => u16::from(refusal.number()),
-        _ => 999,
+// What the calls are to answer, or the number of their refusal.
+const DUE: [Result<Answer, u8>; 10] = [
+    Err(8),
+    Ok(Answer::Done),
+    Err(10),
+    Ok(Answer::Times),
+    Ok(Answer::No),
+    Ok(Answer::Done),
+    Ok(Answer::Clash(2)),
+    Err(23),
+    Ok(Answer::Done),
+    Err(22),
+];
+
+fn answer_of<S: Scale>(reply: Reply<S>) -> Result<Answer, Refusal> {
+    match reply {
+        Reply::Entered(done) | Reply::Struck(done) => {
+            done?;
+            Ok(Answer::Done)
+        }
+        Reply::Settled(settled) => match settled? {
+            Settled::Times => Ok(Answer::Times),
+            Settled::Clash(count) => Ok(Answer::Clash(count)),
+        },
+        Reply::Windowed(window) => {
+            let (earliest, latest) = window?;
+            Ok(Answer::Window(earliest.is_some(), latest.is_some()))
+        }
+        Reply::Followed(followed) => match followed? {
+            Followed::Yes => Ok(Answer::Yes),
+            Followed::No => Ok(Answer::No),
+        },
     }
 }
 
-fn check_life<S: Scale + Clone>(rt: &impl Abort, heap: Global) -> Result<(), Fail> {
-    let mut life = steps::<S>(heap)?;
-    assert!(rt; live(2, life.as_mut_slice()).is_ok());
-    assert_eq!(rt; life.len(), DUE.len());
-    for (step, due) in life.as_slice().iter().zip(&DUE) {
-        assert_eq!(rt; outcome(step), *due);
+// Checks that the calls of a life answer what is due.
+fn check_answers<S: Scale>(
+    rt: &impl Abort,
+    life: &[Step<S>],
+    due: &[Result<Answer, u8>],
+) -> Result<(), Fail> {
+    assert_eq!(rt; life.len(), due.len());
+    for (step, due) in life.iter().zip(due) {
+        let Some(reply) = step.reply else {
+            return Err(Fail::new("no reply"));
+        };
+        assert_eq!(rt; answer_of(reply).map_err(|refusal| refusal.number()), *due);
     }
     Ok(())
+}
+
+fn check_life<S: Scale>(rt: &impl Abort, heap: Global) -> Result<(), Fail> {
+    let mut life = steps::<S>(heap)?;
+    assert!(rt; live(2, life.as_mut_slice()).is_ok());
+    check_answers(rt, life.as_slice(), &DUE)
 }
 
 #[test]
@@ -98,7 +134,7 @@ fn a_life_begins_with_one_to_two_hundred_devices(rt: HostRuntime) -> Result<(), 
 }
 
 // The same calls, with a window and what follows beside them, and settled once more at the end.
-fn more_steps<S: Scale + Clone>(heap: Global) -> Result<Vec<Step<S>>, AllocError> {
+fn more_steps<S: Scale>(heap: Global) -> Result<Vec<Step<S>>, AllocError> {
     let mut steps = Vec::new(heap);
     steps.push(step(heap, Call::Enter(7, before(0, 1)), 0, 0, 0)?)?;
     steps.push(step(heap, Call::Window(1), 0, 0, 1000)?)?;
@@ -110,19 +146,26 @@ fn more_steps<S: Scale + Clone>(heap: Global) -> Result<Vec<Step<S>>, AllocError
     Ok(steps)
 }
 
-// As above, with 201 for yes and 300 for a window with no end.
-const MORE_DUE: [u16; 7] = [0, 300, 201, 0, 102, 0, 100];
+const MORE_DUE: [Result<Answer, u8>; 7] = [
+    Ok(Answer::Done),
+    Ok(Answer::Window(false, false)),
+    Ok(Answer::Yes),
+    Ok(Answer::Done),
+    Ok(Answer::Clash(2)),
+    Ok(Answer::Done),
+    Ok(Answer::Times),
+];
 
 #[test]
 fn a_life_with_a_window_and_a_yes(rt: HostRuntime) -> Result<(), Fail> {
     let mut life = more_steps::<Ticks>(rt.alloc())?;
     assert!(rt; live(2, life.as_mut_slice()).is_ok());
-    assert_eq!(rt; life.len(), MORE_DUE.len());
-    for (step, due) in life.as_slice().iter().zip(&MORE_DUE) {
-        assert_eq!(rt; outcome(step), *due);
-    }
+    check_answers(&rt, life.as_slice(), &MORE_DUE)?;
     // the clash names the lines 7 and 9, and leaves the rest of its buffer
-    let names = &life[4].names;
+    let Some(settled) = life.as_slice().get(4) else {
+        return Err(Fail::new("no fifth call"));
+    };
+    let names = &settled.names;
     assert!(rt; names.len() == 400);
     assert!(rt; names[0] == 7 && names[1] == 9 && names[2] == 0);
     Ok(())

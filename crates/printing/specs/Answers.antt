@@ -3,8 +3,8 @@ use Rattle.std.specs.Prelude.{ℕ, List, [], ◌∷◌, ◌++◌, take, Some, No
 use Rattle.std.specs.List.{flat_map}
 use Rattle.engine.specs.Refusals.{number_of}
 use Rattle.engine.specs.declared.refusal.Refusal.{Refusal}
-use Rattle.lives.specs.declared.steps.Call.{Call}
-use Rattle.lives.specs.declared.steps.Call.TheVariants.{Enter, Strike, Settle, Window, Follows}
+use Rattle.lines.specs.declared.call.Call.{Call}
+use Rattle.lines.specs.declared.call.Call.TheVariants.{Enter, Strike, Settle, Window, Follows}
 use Rattle.lives.specs.declared.steps.Reply.{Reply}
 use Rattle.lives.specs.declared.steps.Reply.TheVariants.{Entered, Struck, Settled, Windowed, Followed}
 use Rattle.lives.specs.declared.steps.Step.{Step}

@@ -1,177 +1,147 @@
-// The line of a call that was made.
-ghost use Rattle.std.specs.Prelude.{◌+◌, ◌≤◌, ◌++◌, length, take};
+// The line of a call that was made. No writer may fail, so that each says how much room it asks for.
+ghost use Rattle.std.specs.Prelude.{◌≡◌, ◌+◌, ◌≤◌, ◌++◌, length, take};
 ghost use Rattle.printing.specs.Answers.{followed_text, granted_text, line_of, refused_text, reply_text, settled_text, subject, window_text};
 ghost use Rattle.printing.specs.Fields.{time_fields};
 ghost use Rattle.printing.specs.Shown.{Shown, ShownFollowed, ShownSettled, ShownWindow, Timed};
-ghost use Rattle.writing.specs.Put.{Put};
 
-use crate::fields::{put_end, put_short, put_shorts, put_times};
+use crate::Line;
+use crate::fields::{push_end, push_numbers, push_times};
 use engine::{Followed, Refusal, Settled};
-use lives::{Call, Reply, Step};
+use lines::Call;
+use lives::{Reply, Step};
 use scales::Scale;
-use writing::{put_byte, put_text};
 
 // The line number or the device that the call names.
-fn put_subject(line: &mut [u8], at: usize, call: Call) -> usize
-    requires { at + 6 ≤ length line.old }
-    ensures bound { result ≤ at + 6 }
-    ensures wrote { Put at (subject call) line.old result line.new }
+fn push_subject(text: &mut Line, call: Call)
+    requires { length text.old + 6 ≤ 8192 }
+    ensures bound { length text.new ≤ length text.old + 6 }
+    ensures wrote { text.new ≡ text.old ++ subject call }
 {
     match call {
-        Call::Enter(number, _) | Call::Strike(number) => put_short(line, at, number),
-        Call::Window(device) => put_short(line, at, u16::from(device)),
-        Call::Settle | Call::Follows(_) => at,
+        Call::Enter(number, _) | Call::Strike(number) => text.push_field(number),
+        Call::Window(device) => text.push_field(device),
+        Call::Settle | Call::Follows(_) => {}
     }
 }
 
-fn put_refusal(line: &mut [u8], at: usize, refusal: Refusal) -> usize
-    requires { at + 14 ≤ length line.old }
-    ensures bound { result ≤ at + 14 }
-    ensures wrote { Put at (refused_text refusal) line.old result line.new }
+fn push_refusal(text: &mut Line, refusal: Refusal)
+    requires { length text.old + 14 ≤ 8192 }
+    ensures bound { length text.new ≤ length text.old + 14 }
+    ensures wrote { text.new ≡ text.old ++ refused_text refusal }
 {
-    let end = put_text(line, at, b" refused");
-    put_short(line, end, u16::from(refusal.number()))
+    text.push_text(b" refused");
+    text.push_field(refusal.number());
 }
 
-fn put_granted(line: &mut [u8], at: usize, call: Call, answer: Result<(), Refusal>) -> usize
-    requires { at + 14 ≤ length line.old }
-    ensures bound { result ≤ at + 14 }
-    ensures wrote { Put at (granted_text call answer) line.old result line.new }
-{
-    match answer {
-        Ok(()) => {
-            let end = put_subject(line, at, call);
-            put_text(line, end, b" ok")
-        }
-        Err(refusal) => put_refusal(line, at, refusal),
-    }
-}
-
-// A word behind a space, and the times of so many devices.
-fn put_timetable<S: Scale>(
-    line: &mut [u8],
-    at: usize,
-    word: &[u8],
+// A call that was made in a book of so many devices, to be printed.
+#[derive(Drop)]
+struct Report<'a, S: Scale> {
     devices: usize,
-    times: &[S],
-) -> usize
-    requires few { (devices ≤ 200) × (length word.now ≤ 6) }
-    requires timed { Timed S.OrderedSums devices times.now }
-    requires room { at + 7000 ≤ length line.old }
-    ensures bound { result ≤ at + 7000 }
-    ensures wrote { Put at (word.now ++ time_fields S.OrderedSums (take devices times.now)) line.old result line.new }
-{
-    let end = put_text(line, at, word);
-    put_times(line, end, &times[0..devices])
+    step: &'a Step<S>,
+    ghost few: { devices ≤ 200 },
 }
 
-fn put_settled<S: Scale>(
-    line: &mut [u8],
-    at: usize,
-    devices: usize,
-    times: &[S],
-    names: &[u16],
-    answer: Result<Settled, Refusal>,
-) -> usize
-    requires few { devices ≤ 200 }
-    requires shown { ShownSettled S.OrderedSums devices times.now names.now answer }
-    requires room { at + 7000 ≤ length line.old }
-    ensures bound { result ≤ at + 7000 }
-    ensures wrote { Put at (settled_text S.OrderedSums devices times.now names.now answer) line.old result line.new }
-{
-    let settled = match answer {
-        Ok(settled) => settled,
-        Err(refusal) => return put_refusal(line, at, refusal),
-    };
-    match settled {
-        Settled::Times => put_timetable(line, at, b" times", devices, times),
-        Settled::Clash(count) => {
-            let end = put_text(line, at, b" clash");
-            put_shorts(line, end, &names[0..count as usize])
+impl<S: Scale> Report<'_, S> {
+    fn push_granted(&self, text: &mut Line, answer: Result<(), Refusal>)
+        requires { length text.old + 14 ≤ 8192 }
+        ensures bound { length text.new ≤ length text.old + 14 }
+        ensures wrote { text.new ≡ text.old ++ granted_text self.now.step.now.call answer }
+    {
+        match answer {
+            Ok(()) => {
+                push_subject(text, self.step.call);
+                text.push_text(b" ok");
+            }
+            Err(refusal) => push_refusal(text, refusal),
         }
     }
-}
 
-fn put_window<S: Scale>(
-    line: &mut [u8],
-    at: usize,
-    call: Call,
-    answer: Result<(Option<S>, Option<S>), Refusal>,
-) -> usize
-    requires shown { ShownWindow S.OrderedSums answer }
-    requires room { at + 7000 ≤ length line.old }
-    ensures bound { result ≤ at + 7000 }
-    ensures wrote { Put at (window_text S.OrderedSums call answer) line.old result line.new }
-{
-    match answer {
-        Ok((earliest, latest)) => {
-            let end = put_subject(line, at, call);
-            let end = put_end(line, end, earliest);
-            put_end(line, end, latest)
+    // A word behind a space, and the times of the devices.
+    fn push_timetable(&self, text: &mut Line, word: &[u8])
+        requires short { length word.now ≤ 6 }
+        requires timed { Timed S.OrderedSums self.now.devices self.now.step.now.times.items }
+        requires room { length text.old + 7000 ≤ 8192 }
+        ensures bound { length text.new ≤ length text.old + 7000 }
+        ensures wrote { text.new ≡ text.old ++ (word.now ++ time_fields S.OrderedSums (take self.now.devices self.now.step.now.times.items)) }
+    {
+        text.push_text(word);
+        push_times(text, &self.step.times.as_slice()[..self.devices]);
+    }
+
+    fn push_settled(&self, text: &mut Line, answer: Result<Settled, Refusal>)
+        requires shown { ShownSettled S.OrderedSums self.now.devices self.now.step.now.times.items self.now.step.now.names.items answer }
+        requires room { length text.old + 7000 ≤ 8192 }
+        ensures bound { length text.new ≤ length text.old + 7000 }
+        ensures wrote { text.new ≡ text.old ++ settled_text S.OrderedSums self.now.devices self.now.step.now.times.items self.now.step.now.names.items answer }
+    {
+        match answer {
+            Ok(Settled::Times) => self.push_timetable(text, b" times"),
+            Ok(Settled::Clash(count)) => {
+                text.push_text(b" clash");
+                push_numbers(text, &self.step.names.as_slice()[..count as usize]);
+            }
+            Err(refusal) => push_refusal(text, refusal),
         }
-        Err(refusal) => put_refusal(line, at, refusal),
+    }
+
+    fn push_window(&self, text: &mut Line, answer: Result<(Option<S>, Option<S>), Refusal>)
+        requires shown { ShownWindow S.OrderedSums answer }
+        requires room { length text.old + 7000 ≤ 8192 }
+        ensures bound { length text.new ≤ length text.old + 7000 }
+        ensures wrote { text.new ≡ text.old ++ window_text S.OrderedSums self.now.step.now.call answer }
+    {
+        match answer {
+            Ok((earliest, latest)) => {
+                push_subject(text, self.step.call);
+                push_end(text, earliest);
+                push_end(text, latest);
+            }
+            Err(refusal) => push_refusal(text, refusal),
+        }
+    }
+
+    fn push_followed(&self, text: &mut Line, answer: Result<Followed, Refusal>)
+        requires shown { ShownFollowed S.OrderedSums self.now.devices self.now.step.now.times.items answer }
+        requires room { length text.old + 7000 ≤ 8192 }
+        ensures bound { length text.new ≤ length text.old + 7000 }
+        ensures wrote { text.new ≡ text.old ++ followed_text S.OrderedSums self.now.devices self.now.step.now.times.items answer }
+    {
+        match answer {
+            Ok(Followed::Yes) => text.push_text(b" yes"),
+            Ok(Followed::No) => self.push_timetable(text, b" no"),
+            Err(refusal) => push_refusal(text, refusal),
+        }
+    }
+
+    // What the call answered.
+    fn push_reply(&self, text: &mut Line)
+        requires shown { Shown S.OrderedSums self.now.devices self.now.step.now }
+        requires room { length text.old + 7000 ≤ 8192 }
+        ensures bound { length text.new ≤ length text.old + 7000 }
+        ensures wrote { text.new ≡ text.old ++ reply_text S.OrderedSums self.now.devices self.now.step.now self.now.step.now.reply }
+    {
+        let Some(reply) = self.step.reply else {
+            return;
+        };
+        match reply {
+            Reply::Entered(answer) | Reply::Struck(answer) => self.push_granted(text, answer),
+            Reply::Settled(answer) => self.push_settled(text, answer),
+            Reply::Windowed(answer) => self.push_window(text, answer),
+            Reply::Followed(answer) => self.push_followed(text, answer),
+        }
     }
 }
 
-fn put_followed<S: Scale>(
-    line: &mut [u8],
-    at: usize,
-    devices: usize,
-    times: &[S],
-    answer: Result<Followed, Refusal>,
-) -> usize
-    requires few { devices ≤ 200 }
-    requires shown { ShownFollowed S.OrderedSums devices times.now answer }
-    requires room { at + 7000 ≤ length line.old }
-    ensures bound { result ≤ at + 7000 }
-    ensures wrote { Put at (followed_text S.OrderedSums devices times.now answer) line.old result line.new }
-{
-    let followed = match answer {
-        Ok(followed) => followed,
-        Err(refusal) => return put_refusal(line, at, refusal),
-    };
-    match followed {
-        Followed::Yes => put_text(line, at, b" yes"),
-        Followed::No => put_timetable(line, at, b" no", devices, times),
-    }
-}
-
-// What the call answered.
-fn put_reply<S: Scale>(line: &mut [u8], at: usize, devices: usize, step: &Step<S>) -> usize
+// The line of a call that was made, in a book of so many devices.
+pub fn call_line<S: Scale>(letter: u8, devices: usize, step: &Step<S>) -> Line
     requires few { devices ≤ 200 }
     requires shown { Shown S.OrderedSums devices step.now }
-    requires room { at + 7000 ≤ length line.old }
-    ensures bound { result ≤ at + 7000 }
-    ensures wrote { Put at (reply_text S.OrderedSums devices step.now step.now.reply) line.old result line.new }
+    ensures { result ≡ line_of S.OrderedSums letter devices step.now }
 {
-    let Some(reply) = step.reply else {
-        return at;
-    };
-    let times = step.times.as_slice();
-    match reply {
-        Reply::Entered(answer) | Reply::Struck(answer) => put_granted(line, at, step.call, answer),
-        Reply::Settled(answer) => put_settled(
-            line,
-            at,
-            devices,
-            times,
-            step.names.as_slice(),
-            answer,
-        ),
-        Reply::Windowed(answer) => put_window(line, at, step.call, answer),
-        Reply::Followed(answer) => put_followed(line, at, devices, times, answer),
-    }
-}
-
-// Writes the line of a call that was made, in a book of so many devices, at the front of `line`, and answers how long it is.
-pub fn put_line<S: Scale>(line: &mut [u8], letter: u8, devices: usize, step: &Step<S>) -> usize
-    requires few { devices ≤ 200 }
-    requires shown { Shown S.OrderedSums devices step.now }
-    requires room { 8192 ≤ length line.old }
-    ensures bound { result ≤ 8192 }
-    ensures wrote { Put 0 (line_of S.OrderedSums letter devices step.now) line.old result line.new }
-{
-    let end = put_byte(line, 0, letter);
-    let end = put_reply(line, end, devices, step);
-    put_byte(line, end, b'\n')
+    let mut text = Line::new();
+    text.push_byte(letter);
+    let report = Report { devices, step };
+    report.push_reply(&mut text);
+    text.push_byte(b'\n');
+    text
 }

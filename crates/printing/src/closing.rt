@@ -1,11 +1,11 @@
 // The last line of a session.
-ghost use Rattle.std.specs.Prelude.{◌≡◌, ◌≤◌, length};
+ghost use Rattle.std.specs.Prelude.{◌≡◌};
 ghost use Rattle.printing.specs.Closings.{closing, fault_line, layer_name};
-ghost use Rattle.writing.specs.Put.{Put};
 
+use crate::Line;
 use session::{Fault, Layer};
-use writing::{put_byte, put_field, put_text};
 
+// `Display` may fail, and this line may not.
 fn layer_name(layer: Layer) -> &'static [u8]
     ensures { result.now ≡ layer_name layer }
 {
@@ -16,27 +16,29 @@ fn layer_name(layer: Layer) -> &'static [u8]
     }
 }
 
-fn put_fault(line: &mut [u8], fault: Fault) -> usize
-    requires { 8192 ≤ length line.old }
-    ensures bound { result ≤ 8192 }
-    ensures wrote { Put 0 (fault_line fault) line.old result line.new }
+fn fault_line(fault: Fault) -> Line
+    ensures { result ≡ fault_line fault }
 {
-    let end = put_text(line, 0, b"fault");
-    let end = put_field(line, end, u64::from(fault.cause.number()));
-    let end = put_field(line, end, fault.place as u64);
-    let end = put_byte(line, end, b' ');
-    let end = put_text(line, end, layer_name(fault.layer));
-    put_byte(line, end, b'\n')
+    let mut text = Line::new();
+    text.push_text(b"fault");
+    text.push_field(fault.cause.number());
+    text.push_field(fault.place);
+    text.push_byte(b' ');
+    text.push_text(layer_name(fault.layer));
+    text.push_byte(b'\n');
+    text
 }
 
-// Writes the line of a session's end, or of its fault, at the front of `line`, and answers how long it is.
-pub fn put_closing(line: &mut [u8], fault: Option<Fault>) -> usize
-    requires { 8192 ≤ length line.old }
-    ensures bound { result ≤ 8192 }
-    ensures wrote { Put 0 (closing fault) line.old result line.new }
+// The line of a session's end, or of its fault.
+pub fn closing_line(fault: Option<Fault>) -> Line
+    ensures { result ≡ closing fault }
 {
     match fault {
-        None => put_text(line, 0, b"Z\n"),
-        Some(fault) => put_fault(line, fault),
+        None => {
+            let mut text = Line::new();
+            text.push_text(b"Z\n");
+            text
+        }
+        Some(fault) => fault_line(fault),
     }
 }

@@ -5,5 +5,9 @@ mod answers;
 mod closing;
 mod fields;
 
-pub use answers::put_line;
-pub use closing::put_closing;
+pub use answers::call_line;
+pub use closing::closing_line;
+use writing::Text;
+
+// The text of a printed line, which has at most 8192 bytes.
+pub type Line = Text<8192>;

@@ -18,7 +18,7 @@ signed_brief z h = length_signed_le 13 z (omega (arith, mag_le z)) (omega (arith
 pub signed_legible : (y z : ℤ) → unsigned_abs y ≤ 1000000000000 → unsigned_abs z ≤ 1000000000000 → signed_decimal y ≡ signed_decimal z → y ≡ z
 signed_legible y z h k e = signed_decimal_injective y z (omega (arith, mag_le y)) (omega (arith, mag_le z)) e
 
-steps_brief : (k : ℤ) → unsigned_abs k ≤ 1000000000000 → length (shown_steps k) ≤ 14
+pub steps_brief : (k : ℤ) → unsigned_abs k ≤ 1000000000000 → length (shown_steps k) ≤ 14
 steps_brief (pos zero) h = omega arith
 steps_brief (pos (suc k)) h = omega (arith, length-decimal-le 13 (suc k) (omega arith) (omega arith) (omega arith))
 steps_brief (negsuc k) h = omega (arith, length-decimal-le 13 (suc k) (omega arith) (omega arith) (omega arith))

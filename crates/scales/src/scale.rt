@@ -1,7 +1,7 @@
-ghost use Rattle.std.specs.Prelude.{◌≡◌, ◌+◌, ◌≤◌, length, pos, negsuc, ◌≤ℤ◌};
-ghost use Rattle.writing.specs.Put.{Put};
+ghost use Rattle.std.specs.Prelude.{◌≡◌, ◌≤◌, pos, negsuc, ◌≤ℤ◌};
 
 use crate::sums::OrderedSums;
+use writing::Text;
 
 // One kind of time that a book can be kept in.
 pub trait Scale: OrderedSums {
@@ -16,10 +16,8 @@ pub trait Scale: OrderedSums {
         requires { (negsuc 999999999 ≤ℤ number) × (number ≤ℤ pos 1000000000) }
         ensures { Self.OrderedSums.means result ≡ Self.OrderedSums.reading number };
 
-    // Writes the time into the buffer from `at` on, and answers the place behind it.
-    fn print(self, buffer: &mut [u8], at: usize) -> usize
-        requires size { Self.OrderedSums.size (Self.OrderedSums.means self) ≤ 1000000000000 }
-        requires room { at + 32 ≤ length buffer.old }
-        ensures bound { result ≤ at + 32 }
-        ensures wrote { Put at (Self.OrderedSums.printed (Self.OrderedSums.means self)) buffer.old result buffer.new };
+    // The time in text.
+    fn print(self) -> Text<32>
+        requires { Self.OrderedSums.size (Self.OrderedSums.means self) ≤ 1000000000000 }
+        ensures { result ≡ Self.OrderedSums.printed (Self.OrderedSums.means self) };
 }

@@ -1,16 +1,15 @@
-ghost use Rattle.std.specs.Prelude.{◌+◌, ◌≤◌, length, pos};
+ghost use Rattle.std.specs.Prelude.{◌≡◌, ◌+◌, ◌≤◌, ◌++◌, length, pos};
 ghost use Rattle.scales.specs.Pairs.{Pair, pair, sum_of, opposite, leads, extent, shown, shown_steps};
-ghost use Rattle.writing.specs.Put.{Put};
 ghost use Rattle.scales.specs.PairsLemmas.{sum_assoc, leads_trans, leads_shifted};
 ghost use Rattle.std.proofs.Common.{arith, rules};
 ghost use Rattle.scales.specs.Printing.{shown_brief, shown_legible};
 
 use crate::scale::Scale;
 use crate::sums::OrderedSums;
-use writing::{put_byte, put_number, put_signed};
+use writing::Text;
 
 // Milliseconds and a number of steps, each smaller than any part of a millisecond.
-#[derive(Clone, Copy)]
+#[derive(Clone, Copy, Debug, PartialEq, Eq, PartialOrd, Ord)]
 pub struct Stepless {
     pub ms: i64,
     pub steps: i64,
@@ -96,7 +95,7 @@ impl OrderedSums for Stepless {
     }
 
     fn not_after(self, other: Stepless) -> bool {
-        self.ms < other.ms || self.ms == other.ms && self.steps <= other.steps
+        self <= other
     }
 }
 
@@ -114,21 +113,23 @@ impl Scale for Stepless {
         }
     }
 
-    fn print(self, buffer: &mut [u8], at: usize) -> usize {
-        let end = put_signed(buffer, at, self.ms);
-        put_steps(buffer, end, self.steps)
+    #[tactic(auto, using(std::proofs::lemmas::Grind::common_steps, crate::specs::Printing::signed_brief, crate::specs::Printing::steps_brief))]
+    fn print(self) -> Text<32> {
+        let mut text = Text::new();
+        text.push_number(self.ms);
+        push_steps(&mut text, self.steps);
+        text
     }
 }
 
 // Nothing for no step, else the sign and the number.
-fn put_steps(buffer: &mut [u8], at: usize, steps: i64) -> usize
-    requires { at + length (shown_steps steps) ≤ length buffer.old }
-    ensures { Put at (shown_steps steps) buffer.old result buffer.new }
+fn push_steps<const N: usize>(text: &mut Text<N>, steps: i64)
+    requires { length text.old + length (shown_steps steps) ≤ N }
+    ensures { text.new ≡ text.old ++ shown_steps steps }
 {
     if steps == 0 {
-        return at;
+        return;
     }
-    let sign = if steps < 0 { b'-' } else { b'+' };
-    let end = put_byte(buffer, at, sign);
-    put_number(buffer, end, steps.unsigned_abs())
+    text.push_byte(if steps < 0 { b'-' } else { b'+' });
+    text.push_number(steps.unsigned_abs());
 }

@@ -2,15 +2,16 @@ ghost use Rattle.std.specs.Prelude.{◌≤◌};
 
 use crate::*;
 use std::process::Abort;
+use writing::Text;
 
 const LIMIT: i64 = 1_000_000_000_000;
 
 #[test]
 fn ticks_sum_up_to_the_limit(rt: HostRuntime) {
     let near = Ticks { ms: LIMIT - 1 };
-    assert_eq!(rt; near.sum(Ticks::step()).ms, LIMIT);
-    assert_eq!(rt; near.opposite().sum(Ticks { ms: -1 }).ms, -LIMIT);
-    assert_eq!(rt; Ticks::zero().opposite().ms, 0);
+    assert_eq!(rt; near.sum(Ticks::step()), Ticks { ms: LIMIT });
+    assert_eq!(rt; near.opposite().sum(Ticks { ms: -1 }), Ticks { ms: -LIMIT });
+    assert_eq!(rt; Ticks::zero().opposite(), Ticks { ms: 0 });
 }
 
 #[test]
@@ -27,11 +28,20 @@ fn stepless_times_sum_up_to_the_limit(rt: HostRuntime) {
         steps: -1,
     };
     let sum = near.sum(Stepless { ms: 0, steps: 1 });
-    assert_eq!(rt; sum.ms, LIMIT - 2);
-    assert_eq!(rt; sum.steps, 0);
-    let opposite = near.opposite();
-    assert_eq!(rt; opposite.ms, 2 - LIMIT);
-    assert_eq!(rt; opposite.steps, 1);
+    assert_eq!(rt;
+        sum,
+        Stepless {
+            ms: LIMIT - 2,
+            steps: 0
+        }
+    );
+    assert_eq!(rt;
+        near.opposite(),
+        Stepless {
+            ms: 2 - LIMIT,
+            steps: 1
+        }
+    );
 }
 
 #[test]
@@ -45,11 +55,16 @@ fn stepless_times_are_ordered_by_milliseconds_first(rt: HostRuntime) {
 
 #[test]
 fn readings_reach_a_thousand_million_either_way(rt: HostRuntime) {
-    assert_eq!(rt; Ticks::reading(1_000_000_000).ms, 1_000_000_000);
-    assert_eq!(rt; Ticks::reading(-1_000_000_000).ms, -1_000_000_000);
-    let low = Stepless::reading(-1_000_000_000);
-    assert_eq!(rt; low.ms, -1_000_000_000);
-    assert_eq!(rt; low.steps, 0);
+    assert_eq!(rt; Ticks::reading(1_000_000_000), Ticks { ms: 1_000_000_000 });
+    assert_eq!(rt;
+        Ticks::reading(-1_000_000_000),
+        Ticks { ms: -1_000_000_000 }
+    );
+    let low = Stepless {
+        ms: -1_000_000_000,
+        steps: 0,
+    };
+    assert_eq!(rt; Stepless::reading(-1_000_000_000), low);
     assert_eq!(rt; low_start::<Stepless>().ms, -1_000_000_000);
 }
 
@@ -59,14 +74,13 @@ fn scales_have_codes_of_their_own(rt: HostRuntime) {
     assert_eq!(rt; Stepless::CODE, 1);
 }
 
-// Prints the time into a buffer of 32 bytes and compares what stands there.
-fn check_printed<S: Scale>(rt: &impl Abort, time: S, text: &[u8])
+// Prints the time and compares the text.
+fn check_printed<S: Scale>(rt: &impl Abort, time: S, printed: &[u8])
     requires { S.OrderedSums.size (S.OrderedSums.means time) ≤ 1000000000000 }
 {
-    let mut buffer = [0u8; 32];
-    let end = time.print(&mut buffer, 0);
-    assert!(rt; end <= 32);
-    assert!(rt; &buffer[0..end] == text);
+    let text = time.print();
+    assert!(rt; text.as_slice().len() <= 32);
+    assert!(rt; text.as_slice() == printed);
 }
 
 #[test]
@@ -95,9 +109,11 @@ fn stepless_times_print_their_steps_behind(rt: HostRuntime) {
 }
 
 #[test]
-fn printing_leaves_the_rest_of_the_buffer(rt: HostRuntime) {
-    let mut buffer = [7u8; 36];
-    let end = Ticks { ms: -12 }.print(&mut buffer, 2);
-    assert_eq!(rt; end, 5);
-    assert!(rt; &buffer[0..6] == b"\x07\x07-12\x07".as_slice());
+fn printing_leaves_the_rest_of_the_text(rt: HostRuntime) {
+    let mut text = Text::<36>::new();
+    text.push_text(&[7, 7]);
+    text.push_text(Ticks { ms: -12 }.print().as_slice());
+    assert_eq!(rt; text.as_slice().len(), 5);
+    text.push_byte(7);
+    assert!(rt; text.as_slice() == b"\x07\x07-12\x07".as_slice());
 }

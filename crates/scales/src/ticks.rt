@@ -5,10 +5,10 @@ ghost use Rattle.scales.specs.Printing.{signed_brief, signed_legible};
 
 use crate::scale::Scale;
 use crate::sums::OrderedSums;
-use writing::put_signed;
+use writing::Text;
 
 // Whole milliseconds, possibly negative.
-#[derive(Clone, Copy)]
+#[derive(Clone, Copy, Debug, PartialEq, Eq, PartialOrd, Ord)]
 pub struct Ticks {
     pub ms: i64,
 }
@@ -89,7 +89,7 @@ impl OrderedSums for Ticks {
     }
 
     fn not_after(self, other: Ticks) -> bool {
-        self.ms <= other.ms
+        self <= other
     }
 }
 
@@ -106,7 +106,10 @@ impl Scale for Ticks {
         }
     }
 
-    fn print(self, buffer: &mut [u8], at: usize) -> usize {
-        put_signed(buffer, at, self.ms)
+    #[tactic(auto, using(std::proofs::lemmas::Grind::common_steps, crate::specs::Printing::signed_brief))]
+    fn print(self) -> Text<32> {
+        let mut text = Text::new();
+        text.push_number(self.ms);
+        text
     }
 }

@@ -1,6 +1,6 @@
 -- Whichever bytes a session holds, it has exactly one reading.
 use Rattle.std.proofs.Common.{◌≡◌, ℕ, zero, suc, ◌-◌, ◌≤◌, List, [], ◌∷◌, length, Some, None, Option, sym, refl, ap, subst, ⊎_elim, arith}
-use Rattle.session.specs.declared.command.Command.{Command}
+use Rattle.lines.specs.declared.call.Call.{Call}
 use Rattle.session.specs.declared.fault.Fault.{Fault}
 use Rattle.session.specs.Commands.{behind}
 use Rattle.session.specs.Readings.{OneReading, Reads, ReadsFrom, command, opened, over, stopped, unopened}
@@ -8,10 +8,10 @@ use Rattle.session.proofs.HeadingFaults.{opened_or_not, opened_unopenable, unope
 use Rattle.session.proofs.Spelling.{closes_stops, found, spelt_closes, spelt_one, spelt_stops, stops_one}
 
 module _ (bs : List ℕ) where
-  one_from : {p : ℕ} {cs ds : List Command} {f g : Option Fault} → ReadsFrom bs p cs f → ReadsFrom bs p ds g → (cs ≡ ds) × (f ≡ g)
+  one_from : {p : ℕ} {cs ds : List Call} {f g : Option Fault} → ReadsFrom bs p cs f → ReadsFrom bs p ds g → (cs ≡ ds) × (f ≡ g)
   one_from {p} (command {c = c} {cs = cs} s r) (command {c = d} {cs = ds} {f = g} t q) =
       let e = spelt_one bs p s t in
-      let i = one_from r (subst (λ (b : Command). ReadsFrom bs (behind p b) ds g) (sym e) q) in
+      let i = one_from r (subst (λ (b : Call). ReadsFrom bs (behind p b) ds g) (sym e) q) in
       let h = i.0 in
       (cc, i.1)
   one_from {p} (command {c = c} s r) (over z) = absurd (spelt_closes bs p c s z)
@@ -23,14 +23,14 @@ module _ (bs : List ℕ) where
   one_from {p} (stopped {f = f} t) (over z) = absurd (closes_stops bs p f z t)
   one_from {p} (stopped {f = f} t) (stopped {f = g} u) = (refl, ap Some (stops_one bs p f g t u))
 
-  one_whole : {cs ds : List Command} {f g : Option Fault} → Reads bs cs f → Reads bs ds g → (cs ≡ ds) × (f ≡ g)
+  one_whole : {cs ds : List Call} {f g : Option Fault} → Reads bs cs f → Reads bs ds g → (cs ≡ ds) × (f ≡ g)
   one_whole (opened o r) (opened h s) = one_from r s
   one_whole (opened o r) (unopened {f = g} u) = absurd (opened_unopenable bs g o u)
   one_whole (unopened {f = f} u) (opened o r) = absurd (opened_unopenable bs f o u)
   one_whole (unopened {f = f} u) (unopened {f = g} v) = (refl, ap Some (unopenable_one bs f g u v))
 
   abbrev From : ℕ → Type 0
-  From p = (cs : List Command) × (f : Option Fault) × ReadsFrom bs p cs f
+  From p = (cs : List Call) × (f : Option Fault) × ReadsFrom bs p cs f
 
   -- each command leaves fewer bytes to read
   from : (fuel p : ℕ) → length bs - p ≤ fuel → From p
@@ -44,7 +44,7 @@ module _ (bs : List ℕ) where
       (⊎_elim (λ z. ([], None, over z)) (λ t. ([], Some t.0, stopped t.1)))
       (found bs p)
 
-  whole : (cs : List Command) × (f : Option Fault) × Reads bs cs f
+  whole : (cs : List Call) × (f : Option Fault) × Reads bs cs f
   whole =
       ⊎_elim (λ o. let r = from (length bs) 6 (omega arith) in (r.0, r.1, opened o r.2))
       (λ u. ([], Some u.0, unopened u.1))

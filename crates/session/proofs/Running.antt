@@ -1,6 +1,6 @@
 -- What a run of the readers gives is the session's reading.
 use Rattle.std.proofs.Common.{ℕ, List, Option, subst}
-use Rattle.session.specs.declared.command.Command.{Command}
+use Rattle.lines.specs.declared.call.Call.{Call}
 use Rattle.session.specs.declared.fault.Fault.{Fault}
 use Rattle.session.specs.declared.reader.Commands.{Commands}
 use Rattle.session.specs.Commands.{behind}
@@ -10,7 +10,7 @@ use Rattle.session.specs.Runs as run
 use Rattle.session.specs.Runs.{ReadersGive, Takes}
 use Rattle.session.specs.Stages.{bytes_of, place_of}
 
-takes_reads : {s : Commands} {cs : List Command} {f : Option Fault} → Takes s cs f → ReadsFrom (bytes_of s) (place_of s) cs f
+takes_reads : {s : Commands} {cs : List Call} {f : Option Fault} → Takes s cs f → ReadsFrom (bytes_of s) (place_of s) cs f
 takes_reads {s} (run.command {s' = s'} {c = c} {cs = cs} {f = f} g rest) =
     reading.command g.0
     (subst (λ (bs : List ℕ). ReadsFrom bs (behind (place_of s) c) cs f) g.1

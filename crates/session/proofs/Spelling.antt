@@ -1,34 +1,42 @@
 -- At each place of a session one command is spelt, or the session ends there, or one fault is met.
 use Rattle.std.proofs.Common.{◌≡◌, ℕ, ◌+◌, ◌<◌, cond, eqb, ◌⊎◌, List, [], length, sym, refl, ap, ◌∙◌, inl, inr, ⊎_elim, arith}
 use Rattle.std.proofs.lemmas.Bool.{cases_eq, cases_lt}
-use Rattle.session.specs.declared.command.Command.{Command}
-use Rattle.session.specs.declared.command.Command.TheVariants.{EnterPair, EnterClock, Strike, Settle, Window, FollowsPair, FollowsClock}
+use Rattle.lines.specs.declared.line.Right.{Right}
+use Rattle.lines.specs.declared.line.Right.TheVariants.{Device, Constant}
+use Rattle.lines.specs.declared.call.Call.{Call}
+use Rattle.lines.specs.declared.call.Call.TheVariants.{Enter, Strike, Settle, Window, Follows}
 use Rattle.session.specs.declared.fault.Fault.{Fault}
-use Rattle.session.specs.Commands.{Closes, OperandsAt, Spelt, Stops, behind, letter_of, width_of}
+use Rattle.session.specs.Commands.{Closes, OperandsAt, Spelt, Stops, behind, enter_letter, follows_letter, letter_of, line_at, line_width, width_of}
 use Rattle.session.specs.Headings.{byte_at}
 use Rattle.session.specs.Operands.{clock_at, cut_off, number_at, pair_at}
 
 -- the command with this letter whose operands stand from p on
-abbrev told : ℕ → List ℕ → ℕ → Command
+abbrev told : ℕ → List ℕ → ℕ → Call
 told b bs p =
-    cond (eqb b 0x45) (EnterPair (number_at bs p) (pair_at bs (p + 2)))
-    (cond (eqb b 0x43) (EnterClock (number_at bs p) (clock_at bs (p + 2)))
+    cond (eqb b 0x45) (Enter (number_at bs p) (pair_at bs (p + 2)))
+    (cond (eqb b 0x43) (Enter (number_at bs p) (clock_at bs (p + 2)))
     (cond (eqb b 0x53) (Strike (number_at bs p))
     (cond (eqb b 0x57) (Window (byte_at bs p))
-    (cond (eqb b 0x46) (FollowsPair (pair_at bs p))
-    (cond (eqb b 0x47) (FollowsClock (clock_at bs p))
+    (cond (eqb b 0x46) (Follows (pair_at bs p))
+    (cond (eqb b 0x47) (Follows (clock_at bs p))
     Settle)))))
 
-told_is : (bs : List ℕ) (p : ℕ) (c : Command) → OperandsAt bs p c → c ≡ told (letter_of c) bs p
-told_is bs p (EnterPair k l) e = let a = e.0 in let b = e.1 in cc
-told_is bs p (EnterClock k l) e = let a = e.0 in let b = e.1 in cc
+told_enter : (bs : List ℕ) (p : ℕ) (r : Right) → Enter (number_at bs p) (line_at bs (p + 2) r) ≡ told (enter_letter r) bs p
+told_enter bs p (Device y) = refl
+told_enter bs p (Constant c) = refl
+
+told_follows : (bs : List ℕ) (p : ℕ) (r : Right) → Follows (line_at bs p r) ≡ told (follows_letter r) bs p
+told_follows bs p (Device y) = refl
+told_follows bs p (Constant c) = refl
+
+told_is : (bs : List ℕ) (p : ℕ) (c : Call) → OperandsAt bs p c → c ≡ told (letter_of c) bs p
+told_is bs p (Enter k a) e = let n = e.0 in let l = e.1 in let t = told_enter bs p a.right in cc
 told_is bs p (Strike k) e = ap Strike e
 told_is bs p Settle e = refl
 told_is bs p (Window x) e = ap Window e
-told_is bs p (FollowsPair l) e = ap FollowsPair e
-told_is bs p (FollowsClock l) e = ap FollowsClock e
+told_is bs p (Follows a) e = ap Follows e ∙ told_follows bs p a.right
 
-pub spelt_one : (bs : List ℕ) (p : ℕ) {c d : Command} → Spelt bs p c → Spelt bs p d → c ≡ d
+pub spelt_one : (bs : List ℕ) (p : ℕ) {c d : Call} → Spelt bs p c → Spelt bs p d → c ≡ d
 spelt_one bs p {c} {d} s t =
     told_is bs (p + 1) c s.operands ∙ ap (λ b. told b bs (p + 1)) (sym s.letter ∙ t.letter) ∙ sym (told_is bs (p + 1) d t.operands)
 
@@ -36,32 +44,44 @@ spelt_one bs p {c} {d} s t =
 abbrev width_at : ℕ → ℕ
 width_at b = width_of (told b [] 0)
 
-width_is : (c : Command) → width_of c ≡ width_at (letter_of c)
-width_is (EnterPair k l) = refl
-width_is (EnterClock k l) = refl
+enter_width : (r : Right) → 2 + line_width r ≡ width_at (enter_letter r)
+enter_width (Device y) = refl
+enter_width (Constant c) = refl
+
+follows_width : (r : Right) → line_width r ≡ width_at (follows_letter r)
+follows_width (Device y) = refl
+follows_width (Constant c) = refl
+
+width_is : (c : Call) → width_of c ≡ width_at (letter_of c)
+width_is (Enter k a) = enter_width a.right
 width_is (Strike k) = refl
 width_is Settle = refl
 width_is (Window x) = refl
-width_is (FollowsPair l) = refl
-width_is (FollowsClock l) = refl
+width_is (Follows a) = follows_width a.right
 
-same_width : (b : ℕ) (c d : Command) → b ≡ letter_of c → b ≡ letter_of d → width_of c ≡ width_of d
+same_width : (b : ℕ) (c d : Call) → b ≡ letter_of c → b ≡ letter_of d → width_of c ≡ width_of d
 same_width b c d e h = width_is c ∙ ap width_at (sym e ∙ h) ∙ sym (width_is d)
 
-not_closing : (c : Command) → letter_of c ≡ 0x5A → ⊥
-not_closing (EnterPair k l) e = omega arith
-not_closing (EnterClock k l) e = omega arith
+enter_not_closing : (r : Right) → enter_letter r ≡ 0x5A → ⊥
+enter_not_closing (Device y) e = omega arith
+enter_not_closing (Constant c) e = omega arith
+
+follows_not_closing : (r : Right) → follows_letter r ≡ 0x5A → ⊥
+follows_not_closing (Device y) e = omega arith
+follows_not_closing (Constant c) e = omega arith
+
+not_closing : (c : Call) → letter_of c ≡ 0x5A → ⊥
+not_closing (Enter k a) e = enter_not_closing a.right e
 not_closing (Strike k) e = omega arith
 not_closing Settle e = omega arith
 not_closing (Window x) e = omega arith
-not_closing (FollowsPair l) e = omega arith
-not_closing (FollowsClock l) e = omega arith
+not_closing (Follows a) e = follows_not_closing a.right e
 
 module _ (bs : List ℕ) (p : ℕ) where
-  pub spelt_closes : (c : Command) → Spelt bs p c → Closes bs p → ⊥
+  pub spelt_closes : (c : Call) → Spelt bs p c → Closes bs p → ⊥
   spelt_closes c s z = not_closing c (sym s.letter ∙ z.letter)
 
-  pub spelt_stops : (c : Command) (f : Fault) → Spelt bs p c → Stops bs p f → ⊥
+  pub spelt_stops : (c : Call) (f : Fault) → Spelt bs p c → Stops bs p f → ⊥
   spelt_stops c f s (inl m) = omega (arith, s.inside, m.past)
   spelt_stops c f s (inr (inl u)) = u.strange c s.letter
   spelt_stops c f s (inr (inr t)) = omega (arith, s.inside, t.short, same_width (byte_at bs p) c t.command s.letter t.letter)
@@ -84,10 +104,10 @@ module _ (bs : List ℕ) (p : ℕ) where
 
   -- what stands at p
   abbrev pub Found : Type 0
-  Found = ((c : Command) × Spelt bs p c) ⊎ (Closes bs p ⊎ ((f : Fault) × Stops bs p f))
+  Found = ((c : Call) × Spelt bs p c) ⊎ (Closes bs p ⊎ ((f : Fault) × Stops bs p f))
 
   -- a letter with its operands, or with too few bytes behind it
-  begun : (c : Command) → p < length bs → byte_at bs p ≡ letter_of c → OperandsAt bs (p + 1) c → Found
+  begun : (c : Call) → p < length bs → byte_at bs p ≡ letter_of c → OperandsAt bs (p + 1) c → Found
   begun c inside letter operands =
       ⊎_elim
       (λ short. inr (inr (cut_off bs, inr (inr (record { inside = inside; command = c; letter = letter; short = short; fault = refl })))))
@@ -101,24 +121,30 @@ module _ (bs : List ℕ) (p : ℕ) where
   abbrev Not : ℕ → Type 0
   Not b = byte_at bs p ≡ b → ⊥
 
-  strange : Not 0x45 → Not 0x43 → Not 0x53 → Not 0x54 → Not 0x57 → Not 0x46 → Not 0x47 → (c : Command) → byte_at bs p ≡ letter_of c → ⊥
-  strange n-E n-C n-S n-T n-W n-F n-G (EnterPair k l) e = n-E e
-  strange n-E n-C n-S n-T n-W n-F n-G (EnterClock k l) e = n-C e
+  not_enter : Not 0x45 → Not 0x43 → (r : Right) → byte_at bs p ≡ enter_letter r → ⊥
+  not_enter n-E n-C (Device y) e = n-E e
+  not_enter n-E n-C (Constant c) e = n-C e
+
+  not_follows : Not 0x46 → Not 0x47 → (r : Right) → byte_at bs p ≡ follows_letter r → ⊥
+  not_follows n-F n-G (Device y) e = n-F e
+  not_follows n-F n-G (Constant c) e = n-G e
+
+  strange : Not 0x45 → Not 0x43 → Not 0x53 → Not 0x54 → Not 0x57 → Not 0x46 → Not 0x47 → (c : Call) → byte_at bs p ≡ letter_of c → ⊥
+  strange n-E n-C n-S n-T n-W n-F n-G (Enter k a) e = not_enter n-E n-C a.right e
   strange n-E n-C n-S n-T n-W n-F n-G (Strike k) e = n-S e
   strange n-E n-C n-S n-T n-W n-F n-G Settle e = n-T e
   strange n-E n-C n-S n-T n-W n-F n-G (Window x) e = n-W e
-  strange n-E n-C n-S n-T n-W n-F n-G (FollowsPair l) e = n-F e
-  strange n-E n-C n-S n-T n-W n-F n-G (FollowsClock l) e = n-G e
+  strange n-E n-C n-S n-T n-W n-F n-G (Follows a) e = not_follows n-F n-G a.right e
 
   inside_found : p < length bs → Found
   inside_found h =
-      either 0x45 (λ e. begun (EnterPair (number_at bs (p + 1)) (pair_at bs (p + 1 + 2))) h e (refl, refl)) (λ n-E.
-      either 0x43 (λ e. begun (EnterClock (number_at bs (p + 1)) (clock_at bs (p + 1 + 2))) h e (refl, refl)) (λ n-C.
+      either 0x45 (λ e. begun (Enter (number_at bs (p + 1)) (pair_at bs (p + 1 + 2))) h e (refl, refl)) (λ n-E.
+      either 0x43 (λ e. begun (Enter (number_at bs (p + 1)) (clock_at bs (p + 1 + 2))) h e (refl, refl)) (λ n-C.
       either 0x53 (λ e. begun (Strike (number_at bs (p + 1))) h e refl) (λ n-S.
       either 0x54 (λ e. begun Settle h e tt) (λ n-T.
       either 0x57 (λ e. begun (Window (byte_at bs (p + 1))) h e refl) (λ n-W.
-      either 0x46 (λ e. begun (FollowsPair (pair_at bs (p + 1))) h e refl) (λ n-F.
-      either 0x47 (λ e. begun (FollowsClock (clock_at bs (p + 1))) h e refl) (λ n-G.
+      either 0x46 (λ e. begun (Follows (pair_at bs (p + 1))) h e refl) (λ n-F.
+      either 0x47 (λ e. begun (Follows (clock_at bs (p + 1))) h e refl) (λ n-G.
       either 0x5A (λ e. inr (inl (record { inside = h; letter = e }))) (λ n-Z.
       inr (inr (_, inr (inl (record { inside = h; strange = strange n-E n-C n-S n-T n-W n-F n-G; going_on = n-Z; fault = refl }))))))))))))
 

@@ -19,9 +19,17 @@ rules = (λ b. nat_eq b 0x53) ∷ (λ b. nat_eq b 0x54) ∷ (λ b. nat_eq b 0x4F
 abbrev pub right : ℕ → ℕ → Bool
 right place b = slice_index_or rules place (λ _. true) b
 
+-- the byte at i is there, and right
+abbrev pub RightAt : List ℕ → ℕ → Type 0
+RightAt bs i = (i < length bs) × (right i (byte_at bs i) ≡ true)
+
+-- the byte at i is wrong, or missing
+abbrev pub WrongAt : List ℕ → ℕ → Type 0
+WrongAt bs i = i < length bs → right i (byte_at bs i) ≡ false
+
 -- the first k bytes are there, and right
 abbrev pub RightUpTo : List ℕ → ℕ → Type 0
-RightUpTo bs k = (i : ℕ) → i < k → (i < length bs) × (right i (byte_at bs i) ≡ true)
+RightUpTo bs k = (i : ℕ) → i < k → RightAt bs i
 
 -- the session is not too long, and its heading is right
 pub record Opened (bs : List ℕ) : Type 0 where
@@ -35,14 +43,18 @@ pub record Overlong (bs : List ℕ) (f : Fault) : Type 0 where
   pub place : f.place ≡ 60000
   pub layer : f.layer ≡ Heading
 
+-- k is the first place of a heading whose byte is wrong or missing
+pub record FirstWrong (bs : List ℕ) (k : ℕ) : Type 0 where
+  pub inside : k < 6
+  pub before : RightUpTo bs k
+  pub wrong : WrongAt bs k
+
 -- the fault of a session, not too long, whose first wrong or missing byte stands in its heading
 pub record Misheaded (bs : List ℕ) (f : Fault) : Type 0 where
   pub short : length bs ≤ 60000
   pub cause : f.cause ≡ BadHeading
   pub layer : f.layer ≡ Heading
-  pub inside : f.place < 6
-  pub before : RightUpTo bs f.place
-  pub wrong : f.place < length bs → right f.place (byte_at bs f.place) ≡ false
+  pub first : FirstWrong bs f.place
 
 abbrev pub Unopenable : List ℕ → Fault → Type 0
 Unopenable bs f = Overlong bs f ⊎ Misheaded bs f
@@ -50,8 +62,8 @@ Unopenable bs f = Overlong bs f ⊎ Misheaded bs f
 -- the reader that an opened session is handed on to: it stands behind the heading, and knows what that says
 pub record Behind (bs : List ℕ) (s : Commands) : Type 0 where
   pub opened : Opened bs
-  pub bytes : s.bytes.now ≡ bs
-  pub place : s.place ≡ 6
+  pub bytes : s.cursor.bytes.now ≡ bs
+  pub place : s.cursor.place ≡ 6
   pub code : s.heading.code ≡ byte_at bs 4
   pub devices : s.heading.devices ≡ byte_at bs 5
 

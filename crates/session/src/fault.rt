@@ -9,29 +9,25 @@ pub enum Layer {
     Operand,
 }
 
-// What is wrong with a session.
+// What is wrong with a session, and its number.
 #[derive(Clone, Copy, Debug, PartialEq)]
 pub enum Cause {
     // more bytes than a session may have
-    TooLong,
+    TooLong = 1,
     // a short or wrong heading
-    BadHeading,
+    BadHeading = 2,
     // a byte that begins no command
-    UnknownCommand,
+    UnknownCommand = 3,
     // no byte where a command or an operand is due
-    EndsEarly,
+    EndsEarly = 4,
 }
 
 impl Cause {
+    // The cast alone would tell a reader less than the name.
     pub fn number(self) -> u8
         ensures { result ≡ number_of self }
     {
-        match self {
-            Cause::TooLong => 1,
-            Cause::BadHeading => 2,
-            Cause::UnknownCommand => 3,
-            Cause::EndsEarly => 4,
-        }
+        self as u8
     }
 }
 

@@ -1,10 +1,11 @@
-ghost use Rattle.std.specs.Prelude.{◌≡◌};
-ghost use Rattle.session.specs.Headings.{known, right};
+ghost use Rattle.std.specs.Prelude.{◌≡◌, MatchBool, MatchOption};
+ghost use Rattle.session.specs.Headings.{FirstWrong, RightAt, RightUpTo, WrongAt, known, right};
 
 use scales::{Scale, Stepless, Ticks};
 
-// What a heading says: the code of a scale, and the number of devices.
-#[derive(Clone, Copy)]
+// What a heading says: the code of a scale, and the number of devices. The code stays a byte, which the program compares with the constant
+// of each scale.
+#[derive(Clone, Copy, Debug, PartialEq)]
 pub struct Heading {
     pub code: u8,
     pub devices: u8,
@@ -18,7 +19,7 @@ fn is_known(code: u8) -> bool
 }
 
 // Whether the byte may stand at this place of a heading.
-pub(crate) fn is_right(place: usize, byte: u8) -> bool
+fn is_right(place: usize, byte: u8) -> bool
     ensures { result ≡ right place byte }
 {
     match place {
@@ -30,4 +31,18 @@ pub(crate) fn is_right(place: usize, byte: u8) -> bool
         5 => 1 <= byte && byte <= 200,
         _ => true,
     }
+}
+
+// Whether the byte at a place of a heading is there, and right.
+fn stands(bytes: &[u8], place: usize) -> bool
+    ensures { MatchBool result (RightAt bytes.now place) (WrongAt bytes.now place) }
+{
+    bytes.get(place).is_some_and(|byte| is_right(place, *byte))
+}
+
+// The first place of a heading whose byte is wrong or missing.
+pub(crate) fn first_wrong(bytes: &[u8]) -> Option<usize>
+    ensures { MatchOption result (RightUpTo bytes.now 6) (FirstWrong bytes.now) }
+{
+    (0..6).find(|place| !stands(bytes, *place))
 }

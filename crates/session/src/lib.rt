@@ -1,18 +1,17 @@
 // Reads a session: its heading, and then command after command up to its end.
 #![tactic(auto)]
 
-mod command;
+mod cursor;
 mod fault;
 mod heading;
 mod laws;
-mod operands;
+mod letters;
 mod reader;
 #[cfg(test)]
 mod tests;
 
-pub use command::Command;
 pub use fault::{Cause, Fault, Layer};
 pub use heading::Heading;
 pub use laws::one_reading;
-pub use operands::{Clock, Pair};
-pub use reader::{Commands, LONGEST, Next, Unopened};
+pub use letters::letter;
+pub use reader::{Commands, LONGEST, Unopened};

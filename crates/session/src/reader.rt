@@ -1,14 +1,15 @@
 // A session's stages: unopened until its heading is accepted, then giving commands until Z, then over. Each stage is a type, and
 // reading moves from one to the next: there is no command to take before the heading, and no reader to take one from after Z.
 ghost use Rattle.std.specs.Prelude.{◌≡◌};
+ghost use Rattle.session.specs.Commands.{unknown_at};
 ghost use Rattle.session.specs.Endings.{Ends};
 ghost use Rattle.session.specs.Headings.{Opens};
-ghost use Rattle.session.specs.Stages.{Forward, Gives};
+ghost use Rattle.session.specs.Stages.{Forward, Gives, bytes_of, place_of};
 
-use crate::command::Command;
+use crate::cursor::Cursor;
 use crate::fault::{Cause, Fault, Layer};
-use crate::heading::{Heading, is_right};
-use crate::operands::Operands;
+use crate::heading::{Heading, first_wrong};
+use lines::Call;
 
 // The most bytes that a session may have.
 pub const LONGEST: usize = 60000;
@@ -19,19 +20,11 @@ pub struct Unopened<'a> {
     bytes: &'a [u8],
 }
 
-// A session whose heading was accepted, and the place of the next byte.
+// A session whose heading was accepted, at the next command.
 #[derive(Drop)]
 pub struct Commands<'a> {
-    bytes: &'a [u8],
-    place: usize,
+    cursor: Cursor<'a>,
     heading: Heading,
-}
-
-// What the reader of commands gives: a command, and the reader that stands behind it, or the end of the session.
-#[derive(Drop)]
-pub enum Next<'a> {
-    Command(Command, Commands<'a>),
-    Over,
 }
 
 impl<'a> Unopened<'a> {
@@ -52,23 +45,31 @@ impl<'a> Unopened<'a> {
                 layer: Layer::Heading,
             });
         }
-        for place in 0..6 {
-            if place >= bytes.len() || !is_right(place, bytes[place]) {
-                return Err(Fault {
-                    cause: Cause::BadHeading,
-                    place,
-                    layer: Layer::Heading,
-                });
-            }
+        if let Some(place) = first_wrong(bytes) {
+            return Err(Fault {
+                cause: Cause::BadHeading,
+                place,
+                layer: Layer::Heading,
+            });
         }
         Ok(Commands {
-            bytes,
-            place: 6,
+            cursor: Cursor::new(bytes, 6),
             heading: Heading {
                 code: bytes[4],
                 devices: bytes[5],
             },
         })
+    }
+}
+
+// The fault of a byte that begins no command.
+fn unknown(place: usize) -> Fault
+    ensures { result ≡ unknown_at place }
+{
+    Fault {
+        cause: Cause::UnknownCommand,
+        place,
+        layer: Layer::Command,
     }
 }
 
@@ -79,56 +80,35 @@ impl<'a> Commands<'a> {
         self.heading
     }
 
-    // Takes the next command, or the end of the session. Later bytes are not read.
-    pub fn next_command(self) -> Result<Next<'a>, Fault>
+    // Takes the next command, as a call, and gives the reader that stands behind it; at the end of the session there is none. Later bytes
+    // are not read.
+    pub fn next_command(mut self) -> Result<Option<(Call, Commands<'a>)>, Fault>
         ensures gives { Gives self.entry result }
         ensures forward { Forward self.entry result }
     {
-        if self.place >= self.bytes.len() {
-            return Err(Fault {
-                cause: Cause::EndsEarly,
-                place: self.bytes.len(),
-                layer: Layer::Command,
-            });
-        }
-        let letter = self.bytes[self.place];
-        let mut operands = Operands::new(self.bytes, self.place + 1);
-        let command = match letter {
-            b'E' => Command::EnterPair(operands.number()?, operands.pair()?),
-            b'C' => Command::EnterClock(operands.number()?, operands.clock()?),
-            b'S' => Command::Strike(operands.number()?),
-            b'T' => Command::Settle,
-            b'W' => Command::Window(operands.byte()?),
-            b'F' => Command::FollowsPair(operands.pair()?),
-            b'G' => Command::FollowsClock(operands.clock()?),
-            b'Z' => return Ok(Next::Over),
-            _ => return Err(Fault {
-                cause: Cause::UnknownCommand,
-                place: self.place,
-                layer: Layer::Command,
-            }),
+        let place = self.cursor.place();
+        let call = match self.cursor.take(Layer::Command)? {
+            b'E' => Call::Enter(self.cursor.number()?, self.cursor.pair()?),
+            b'C' => Call::Enter(self.cursor.number()?, self.cursor.clock()?),
+            b'S' => Call::Strike(self.cursor.number()?),
+            b'T' => Call::Settle,
+            b'W' => Call::Window(self.cursor.byte()?),
+            b'F' => Call::Follows(self.cursor.pair()?),
+            b'G' => Call::Follows(self.cursor.clock()?),
+            b'Z' => return Ok(None),
+            _ => return Err(unknown(place)),
         };
-        let place = operands.place();
-        Ok(Next::Command(command, Commands { place, ..self }))
+        Ok(Some((call, self)))
     }
 
-    // Takes the command that ends the session. Later bytes are not read.
-    pub fn end(self) -> Result<(), Fault>
-        ensures { Ends self.entry.bytes.now self.entry.place result }
+    // Takes the command that ends the session. Later bytes are not read. It stands beside `next_command` for a program that knows no other
+    // command.
+    pub fn end(mut self) -> Result<(), Fault>
+        ensures { Ends (bytes_of self.entry) (place_of self.entry) result }
     {
-        if self.place >= self.bytes.len() {
-            return Err(Fault {
-                cause: Cause::EndsEarly,
-                place: self.bytes.len(),
-                layer: Layer::Command,
-            });
-        }
-        if self.bytes[self.place] != b'Z' {
-            return Err(Fault {
-                cause: Cause::UnknownCommand,
-                place: self.place,
-                layer: Layer::Command,
-            });
+        let place = self.cursor.place();
+        if self.cursor.take(Layer::Command)? != b'Z' {
+            return Err(unknown(place));
         }
         Ok(())
     }

@@ -1,5 +1,5 @@
 use crate::*;
-use std::process::Abort;
+use lines::{Asked, Call};
 use std::test::Fail;
 
 const SESSION: [u8; 7] = [0x53, 0x54, 0x4F, 0x50, 0, 2, 0x5A];
@@ -12,91 +12,84 @@ fn read(bytes: &[u8]) -> Result<Heading, Fault> {
     Ok(heading)
 }
 
-fn check_fault(
-    rt: &impl Abort,
-    bytes: &[u8],
-    cause: Cause,
-    place: usize,
-    layer: Layer,
-) -> Result<(), Fail> {
-    match read(bytes) {
-        Ok(_) => Err(Fail::new("no fault")),
-        Err(fault) => {
-            assert_eq!(rt;
-                fault,
-                Fault {
-                    cause,
-                    place,
-                    layer,
-                }
-            );
-            Ok(())
-        },
+fn fault(cause: Cause, place: usize, layer: Layer) -> Fault {
+    Fault {
+        cause,
+        place,
+        layer,
     }
 }
 
-#[test]
-fn reads_a_heading_and_the_end(rt: HostRuntime) -> Result<(), Fail> {
-    let heading = read(&SESSION)?;
-    assert_eq!(rt; heading.code, 0);
-    assert_eq!(rt; heading.devices, 2);
-    Ok(())
+// What reading comes to where a byte of the heading is wrong or missing.
+fn bad_heading(place: usize) -> Result<Heading, Fault> {
+    Err(fault(Cause::BadHeading, place, Layer::Heading))
 }
 
 #[test]
-fn bytes_behind_the_end_are_not_read(rt: HostRuntime) -> Result<(), Fail> {
-    let heading = read(b"STOP\x01\xC8Z\x00\xFF")?;
-    assert_eq!(rt; heading.code, 1);
-    assert_eq!(rt; heading.devices, 200);
-    Ok(())
+fn reads_a_heading_and_the_end(rt: HostRuntime) {
+    assert_eq!(rt;
+        read(&SESSION),
+        Ok(Heading {
+            code: 0,
+            devices: 2,
+        })
+    );
 }
 
 #[test]
-fn a_heading_that_is_cut_names_the_missing_byte(rt: HostRuntime) -> Result<(), Fail> {
+fn bytes_behind_the_end_are_not_read(rt: HostRuntime) {
+    assert_eq!(rt;
+        read(b"STOP\x01\xC8Z\x00\xFF"),
+        Ok(Heading {
+            code: 1,
+            devices: 200,
+        })
+    );
+}
+
+#[test]
+fn a_heading_that_is_cut_names_the_missing_byte(rt: HostRuntime) {
+    // each length of a heading that is cut
     for length in 0..6 {
-        check_fault(
-            &rt,
-            &SESSION[0..length],
-            Cause::BadHeading,
-            length,
-            Layer::Heading,
-        )?;
+        assert_eq!(rt; read(&SESSION[0..length]), bad_heading(length));
     }
-    check_fault(&rt, &SESSION[0..6], Cause::EndsEarly, 6, Layer::Command)
+    assert_eq!(rt;
+        read(&SESSION[0..6]),
+        Err(fault(Cause::EndsEarly, 6, Layer::Command))
+    );
 }
 
 #[test]
-fn a_wrong_byte_of_the_heading_is_named(rt: HostRuntime) -> Result<(), Fail> {
+fn a_wrong_byte_of_the_heading_is_named(rt: HostRuntime) {
+    // each place of a heading
     for place in 0..6 {
         let mut bytes = SESSION;
         bytes[place] = 0xEE;
-        check_fault(&rt, &bytes, Cause::BadHeading, place, Layer::Heading)?;
+        assert_eq!(rt; read(&bytes), bad_heading(place));
     }
-    check_fault(&rt, b"STOP\x02\x02Z", Cause::BadHeading, 4, Layer::Heading)?;
-    check_fault(&rt, b"STOP\x00\x00Z", Cause::BadHeading, 5, Layer::Heading)?;
-    check_fault(&rt, b"STOP\x00\xC9Z", Cause::BadHeading, 5, Layer::Heading)
+    assert_eq!(rt; read(b"STOP\x02\x02Z"), bad_heading(4));
+    assert_eq!(rt; read(b"STOP\x00\x00Z"), bad_heading(5));
+    assert_eq!(rt; read(b"STOP\x00\xC9Z"), bad_heading(5));
 }
 
 #[test]
-fn another_command_is_unknown(rt: HostRuntime) -> Result<(), Fail> {
-    check_fault(
-        &rt,
-        b"STOP\x00\x02z",
-        Cause::UnknownCommand,
-        6,
-        Layer::Command,
-    )
+fn another_command_is_unknown(rt: HostRuntime) {
+    assert_eq!(rt;
+        read(b"STOP\x00\x02z"),
+        Err(fault(Cause::UnknownCommand, 6, Layer::Command))
+    );
 }
 
 #[test]
-fn sixty_thousand_bytes_are_the_most(rt: HostRuntime) -> Result<(), Fail> {
+fn sixty_thousand_bytes_are_the_most(rt: HostRuntime) {
+    let too_long = Err(fault(Cause::TooLong, 60000, Layer::Heading));
     let mut bytes = [0u8; 60001];
     bytes[0..7].copy_from_slice(&SESSION);
     assert!(rt; read(&bytes[0..60000]).is_ok());
-    check_fault(&rt, &bytes, Cause::TooLong, 60000, Layer::Heading)?;
+    assert_eq!(rt; read(&bytes), too_long);
     bytes[0] = 0;
-    check_fault(&rt, &bytes, Cause::TooLong, 60000, Layer::Heading)?;
-    check_fault(&rt, &bytes[0..60000], Cause::BadHeading, 0, Layer::Heading)
+    assert_eq!(rt; read(&bytes), too_long);
+    assert_eq!(rt; read(&bytes[0..60000]), bad_heading(0));
 }
 
 #[test]
@@ -111,92 +104,34 @@ fn faults_are_numbered_from_one(rt: HostRuntime) {
 fn read_commands(bytes: &[u8]) -> Result<Heading, Fault> {
     let mut reader = Unopened::new(bytes).open()?;
     let heading = reader.heading();
-    loop {
-        match reader.next_command()? {
-            Next::Command(_, rest) => reader = rest,
-            Next::Over => return Ok(heading),
-        }
+    while let Some((_, rest)) = reader.next_command()? {
+        reader = rest;
     }
-}
-
-// Checks that reading a session's commands comes to this fault.
-fn check_stop(rt: &impl Abort, bytes: &[u8], cause: Cause, place: usize, layer: Layer) {
-    let due = Fault {
-        cause,
-        place,
-        layer,
-    };
-    assert_eq!(rt; read_commands(bytes).err(), Some(due));
+    Ok(heading)
 }
 
 // A session with one of each command, and a byte behind its end.
 const COMMANDS: [u8; 40] =
     *b"STOP\x00\x02E\x01\x02<\x03\x04C\x00\x07g\xC8\xFF\xF0\xBD\xC0S\x01\x8FTW\x05Fl\x06\x07G=\x08\x00\x0F\x42\x40Z?";
 
-// Takes the next command, which is to be this one, and answers the reader behind it.
-fn expect<'a>(
-    rt: &impl Abort,
-    reader: Commands<'a>,
-    command: Command,
-) -> Result<Commands<'a>, Fail> {
-    match reader.next_command()? {
-        Next::Command(read, rest) => {
-            assert_eq!(rt; read, command);
-            Ok(rest)
-        }
-        Next::Over => Err(Fail::new("over")),
-    }
-}
-
 #[test]
 fn commands_have_their_high_bytes_first_and_a_sign(rt: HostRuntime) -> Result<(), Fail> {
+    let due = [
+        Call::Enter(258, Asked::pair(3, b'<', 4)),
+        Call::Enter(7, Asked::clock(200, b'g', -1_000_000)),
+        Call::Strike(399),
+        Call::Settle,
+        Call::Window(5),
+        Call::Follows(Asked::pair(6, b'l', 7)),
+        Call::Follows(Asked::clock(8, b'=', 1_000_000)),
+    ];
     let mut reader = Unopened::new(&COMMANDS).open()?;
-    reader = expect(
-        &rt,
-        reader,
-        Command::EnterPair(
-            258,
-            Pair {
-                op: b'<',
-                x: 3,
-                y: 4,
-            },
-        ),
-    )?;
-    reader = expect(
-        &rt,
-        reader,
-        Command::EnterClock(
-            7,
-            Clock {
-                op: b'g',
-                x: 200,
-                constant: -1_000_000,
-            },
-        ),
-    )?;
-    reader = expect(&rt, reader, Command::Strike(399))?;
-    reader = expect(&rt, reader, Command::Settle)?;
-    reader = expect(&rt, reader, Command::Window(5))?;
-    reader = expect(
-        &rt,
-        reader,
-        Command::FollowsPair(Pair {
-            op: b'l',
-            x: 6,
-            y: 7,
-        }),
-    )?;
-    reader = expect(
-        &rt,
-        reader,
-        Command::FollowsClock(Clock {
-            op: b'=',
-            x: 8,
-            constant: 1_000_000,
-        }),
-    )?;
-    assert!(rt; matches!(reader.next_command()?, Next::Over));
+    for call in due {
+        let (read, rest) = reader.next_command()?.ok_or("over")?;
+        assert_eq!(rt; read, call);
+        reader = rest;
+    }
+    assert!(rt; reader.next_command()?.is_none());
     Ok(())
 }
 
@@ -204,33 +139,33 @@ fn commands_have_their_high_bytes_first_and_a_sign(rt: HostRuntime) -> Result<()
 const BEGINNINGS: [usize; 8] = [6, 12, 21, 24, 25, 27, 31, 38];
 
 #[test]
-fn bytes_that_end_early_name_the_layer(rt: HostRuntime) -> Result<(), Fail> {
+fn bytes_that_end_early_name_the_layer(rt: HostRuntime) {
+    // each length that ends before the last command
     for length in 6..39 {
         let layer = if BEGINNINGS.contains(&length) {
             Layer::Command
         } else {
             Layer::Operand
         };
-        check_stop(&rt, &COMMANDS[0..length], Cause::EndsEarly, length, layer);
+        assert_eq!(rt;
+            read_commands(&COMMANDS[0..length]),
+            Err(fault(Cause::EndsEarly, length, layer))
+        );
     }
     assert!(rt; read_commands(&COMMANDS).is_ok());
-    Ok(())
 }
 
 #[test]
 fn another_command_is_unknown_behind_others(rt: HostRuntime) {
-    check_stop(
-        &rt,
-        b"STOP\x00\x02TT\x00Z",
-        Cause::UnknownCommand,
-        8,
-        Layer::Command,
+    assert_eq!(rt;
+        read_commands(b"STOP\x00\x02TT\x00Z"),
+        Err(fault(Cause::UnknownCommand, 8, Layer::Command))
     );
 }
 
 #[test]
 fn commands_begin_with_their_letters(rt: HostRuntime) {
-    assert_eq!(rt; Command::Settle.letter(), b'T');
-    assert_eq!(rt; Command::Strike(0).letter(), b'S');
-    assert_eq!(rt; Command::Window(0).letter(), b'W');
+    assert_eq!(rt; letter(Call::Settle), b'T');
+    assert_eq!(rt; letter(Call::Strike(0)), b'S');
+    assert_eq!(rt; letter(Call::Window(0)), b'W');
 }

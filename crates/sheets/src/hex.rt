@@ -1,5 +1,5 @@
 // Bytes written in hexadecimal: two digits, and a space or a newline behind them, for each byte.
-ghost use Rattle.std.specs.Prelude.{ℕ, ◌+◌, ◌≤◌, length, IfOk, MatchOption};
+ghost use Rattle.std.specs.Prelude.{ℕ, IfOk, MatchOption};
 ghost use Rattle.sheets.specs.Hex.{Decoded, Illegible, Spelt, Worth};
 
 use std::alloc::{AllocError, Global};
@@ -8,37 +8,33 @@ use std::alloc::{AllocError, Global};
 fn digit(byte: u8) -> Option<u8>
     ensures { MatchOption result ((v : ℕ) → Worth byte v → ⊥) (λ v. Worth byte v) }
 {
-    for value in 0..16u8 {
-        if b"0123456789ABCDEF"[value as usize] == byte {
-            return Some(value);
-        }
-    }
-    None
+    let value = b"0123456789ABCDEF".iter().position(|digit| *digit == byte)?;
+    Some(value as u8)
 }
 
-// The byte that is spelt from a place of the text on, if one is.
-fn spelt(text: &[u8], place: usize) -> Option<u8>
-    requires { place + 3 ≤ length text.now }
-    ensures { MatchOption result ((b : ℕ) → Spelt text.now place b → ⊥) (λ b. Spelt text.now place b) }
+// The byte that two digits and what is behind them spell, if they spell one.
+fn spelt(triple: &[u8; 3]) -> Option<u8>
+    ensures { MatchOption result ((b : ℕ) → Spelt triple.now 0 b → ⊥) (λ b. Spelt triple.now 0 b) }
 {
-    let high = digit(text[place])?;
-    let low = digit(text[place + 1])?;
-    match text[place + 2] {
-        b' ' | b'\n' => Some(16 * high + low),
-        _ => None,
-    }
+    let [first, second, b' ' | b'\n'] = *triple else {
+        return None;
+    };
+    let high = digit(first)?;
+    let low = digit(second)?;
+    Some(16 * high + low)
 }
 
 // The bytes that a text spells; nothing where it is written otherwise.
 pub fn decode(heap: Global, text: &[u8]) -> Result<Option<Vec<u8>>, AllocError>
     ensures { IfOk result (λ o. MatchOption o (Illegible text.now) (λ out. Decoded text.now out.items)) }
 {
-    if text.len() % 3 != 0 {
+    let (triples, rest) = text.as_chunks::<3>();
+    if !rest.is_empty() {
         return Ok(None);
     }
     let mut out = Vec::new(heap);
-    for index in 0..text.len() / 3 {
-        let Some(byte) = spelt(text, 3 * index) else {
+    for triple in triples {
+        let Some(byte) = spelt(triple) else {
             return Ok(None);
         };
         out.push(byte)?;

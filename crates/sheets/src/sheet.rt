@@ -7,22 +7,15 @@ use crate::hex::decode;
 use answering::transcript;
 use std::alloc::{AllocError, Global};
 
-// Adds bytes to the output.
-fn add(out: &mut Vec<u8>, more: &[u8]) -> Result<(), AllocError>
-    ensures { OnOk result (out.new.items ≡ out.old.items ++ more.now) }
-{
-    out.extend_from_slice(more)
-}
-
 // Adds whether the printed lines are those that are due, and if not, those.
 fn judge(out: &mut Vec<u8>, printed: &[u8], due: &[u8]) -> Result<(), AllocError>
     ensures { OnOk result (((more : List ℕ) × Judged printed.now due.now more × (out.new.items ≡ out.old.items ++ more))) }
 {
     if printed == due {
-        return add(out, b"as due\n");
+        return out.extend_from_slice(b"as due\n");
     }
-    add(out, b"due:\n")?;
-    add(out, due)
+    out.extend_from_slice(b"due:\n")?;
+    out.extend_from_slice(due)
 }
 
 // The session's name, what it prints, and whether that is due; nothing where the text is not hexadecimal.
@@ -39,9 +32,9 @@ pub fn report(
     };
     let printed = transcript(heap, session.as_slice())?;
     let mut out = Vec::from_slice(heap, b"sheet ")?;
-    add(&mut out, name)?;
-    add(&mut out, b"\n")?;
-    add(&mut out, printed.as_slice())?;
+    out.extend_from_slice(name)?;
+    out.extend_from_slice(b"\n")?;
+    out.extend_from_slice(printed.as_slice())?;
     judge(&mut out, printed.as_slice(), due)?;
     Ok(Some(out))
 }

@@ -8,9 +8,6 @@ use Rattle.tables.specs.Naming.{Named}
 use Rattle.tables.specs.Gathering.{Chosen}
 
 module _ (picked : List Bool) where
-  pub named_none : Named picked 0 []
-  named_none = record { rising = λ i j h k. absurd (omega arith); sound = λ k has. absurd (omega (arith, has.1)); complete = λ k h c. absurd (omega arith) }
-
   pub named_skip : (i : ℕ) (ks : List ℕ) → get_or picked i false ≡ false → Named picked i ks → Named picked (i + 1) ks
   named_skip i ks no' n = record {
     rising = n.rising;

@@ -1,5 +1,5 @@
--- The records of a book: an empty table is sound, and one with an admitted record put in stays so.
-use Rattle.std.proofs.Common.{◌≡◌, ℕ, zero, suc, ◌<◌, true, false, not, ◌&&◌, T, eqb, ltb, ◌⊎◌, List, [], ◌∷◌, length, get_or, set, replicate, pos, negsuc, None, Option, sym, refl, ap, ◌∙◌, subst, ⊎_elim, arith}
+-- The records of a book: an empty table is sound, and what the test of a line says.
+use Rattle.std.proofs.Common.{◌≡◌, ℕ, zero, suc, ◌<◌, true, false, not, ◌&&◌, T, eqb, ltb, ◌⊎◌, List, length, get_or, replicate, pos, negsuc, None, Option, sym, refl, ap, ◌∙◌, subst, ⊎_elim, arith}
 use lib.Signed.{le_z, le_z_yes}
 use Rattle.std.proofs.lemmas.Bool.{and_parts, ltb-true, eq-eqb, not-true, cases_lt}
 use Rattle.std.proofs.lemmas.List.{get_or_past}
@@ -19,15 +19,6 @@ none_everywhere (suc m) (suc k) = none_everywhere m k
 
 pub empty_sound : (n m k : ℕ) → admits n (get_or (replicate m None) k None) ≡ true
 empty_sound n m k = ap (admits n) (none_everywhere m k)
-
-pub put_sound : (n : ℕ) (ls : List (Option Line)) (i : ℕ) (o : Option Line)
-    → ((k : ℕ) → admits n (get_or ls k None) ≡ true) → admits n o ≡ true
-    → (k : ℕ) → admits n (get_or (set ls i o) k None) ≡ true
-put_sound n [] i o h e k = refl
-put_sound n (x ∷ ls) zero o h e zero = e
-put_sound n (x ∷ ls) zero o h e (suc k) = h (suc k)
-put_sound n (x ∷ ls) (suc i) o h e zero = h zero
-put_sound n (x ∷ ls) (suc i) o h e (suc k) = put_sound n ls i o (λ j. h (suc j)) e k
 
 -- what the test of a line says
 reaches_says : (n : ℕ) (r : Right) → reaches n r ≡ true → Known n r × Within r

@@ -1,7 +1,5 @@
-ghost use Rattle.std.specs.Prelude.{◌≡◌, ◌<◌, ◌≤◌, false, length, take, drop, replicate, slice_index_or, slice_set};
+ghost use Rattle.std.specs.Prelude.{◌≡◌, ◌<◌, ◌≤◌, false, length, take, drop, slice_index_or, slice_set};
 ghost use Rattle.tables.specs.Naming.{Named};
-
-use crate::table::NUMBERS;
 
 // Some of a book's line numbers.
 #[derive(Drop)]
@@ -11,19 +9,17 @@ pub struct Choice {
 }
 
 impl Choice {
-    pub fn none() -> Choice
-        ensures { result.picked ≡ replicate 400 false }
+    // The numbers at which `picked` is true.
+    pub fn of(picked: [bool; 400]) -> Choice
+        ensures { result.picked ≡ picked }
     {
-        Choice {
-            picked: [false; 400],
-        }
+        Choice { picked }
     }
 
     pub fn has(&self, number: usize) -> bool
-        requires { number < 400 }
         ensures { result ≡ slice_index_or self.now.picked number false }
     {
-        self.picked[number]
+        matches!(self.picked.get(number), Some(true))
     }
 
     pub fn put(&mut self, at: usize, within: bool)
@@ -33,7 +29,8 @@ impl Choice {
         self.picked[at] = within;
     }
 
-    // Writes the chosen numbers, rising, to the front of `names`, and answers how many they are.
+    // Writes the chosen numbers, rising, to the front of `names`, and answers how many they are. The buffer is the caller's own: a book's
+    // calls are lent all memory that they use.
     pub fn write(&self, names: &mut [u16]) -> u16
         requires { 400 ≤ length names.old }
         ensures few { result ≤ 400 }
@@ -41,8 +38,8 @@ impl Choice {
         ensures rest { drop result names.new ≡ drop result names.old }
     {
         let mut count: u16 = 0;
-        for number in 0..NUMBERS {
-            if self.has(number) {
+        for (number, picked) in self.picked.iter().enumerate() {
+            if *picked {
                 names[count as usize] = number as u16;
                 count += 1;
             }

@@ -1,30 +1,27 @@
 // A book's lines as edges, with their weights.
-ghost use Rattle.std.specs.Prelude.{◌≡◌, ℕ, ◌+◌, ◌<◌, ◌≤◌, ◌++◌, length, take, drop, None, ◌≢◌, slice_index_or};
-ghost use Rattle.lines.specs.Bounding.{Weighs, listed};
-ghost use Rattle.tables.specs.Gathering.{Gathered, Picked, Spared, Weighed, edges_under};
-ghost use Rattle.tables.specs.Tables.{Shows};
-ghost use Rattle.bounds.specs.Bounds.{times_of};
+ghost use Rattle.std.specs.Prelude.{◌≡◌, ◌+◌, ◌≤◌, ◌++◌, length};
+ghost use Rattle.arrayvec.specs.ArrayVec.{array_vec_len};
+ghost use Rattle.lines.specs.Bounding.{listed};
+ghost use Rattle.tables.specs.Gathering.{Gathered, Picked, Spared, Weighed, edges_of_record};
 
 use crate::choice::Choice;
-use crate::table::{NUMBERS, Table};
+use crate::table::Table;
+use arrayvec::ArrayVec;
 use bounds::Edge;
 use lines::{Line, LineEdges};
 use scales::Scale;
 
-// Adds the edges of one line behind the first `count`, and answers how many there are now.
-pub fn append(edges: &mut [Edge], count: usize, more: LineEdges) -> usize
-    requires { count + 2 ≤ length edges.old }
-    ensures bound { result ≤ count + 2 }
-    ensures rest { drop result edges.new ≡ drop result edges.old }
-    ensures wrote { take result edges.new ≡ take count edges.old ++ listed more }
+// The edges of a book's lines and of one more: two for each, where each says "with".
+pub type Edges = ArrayVec<Edge, 802>;
+
+// Adds the edges of one line.
+pub fn append<const N: usize>(edges: &mut ArrayVec<Edge, N>, more: LineEdges)
+    requires { array_vec_len edges.old + 2 ≤ N }
+    ensures { edges.new.items ≡ edges.old.items ++ listed more }
 {
-    edges[count] = more.first;
-    match more.second {
-        None => count + 1,
-        Some(second) => {
-            edges[count + 1] = second;
-            count + 2
-        }
+    edges.push(more.first);
+    if let Some(second) = more.second {
+        edges.push(second);
     }
 }
 
@@ -33,41 +30,31 @@ impl Table {
     pub fn standing(&self) -> Choice
         ensures { Picked self.now.lines result.picked }
     {
-        let mut choice = Choice::none();
-        for number in 0..NUMBERS {
-            choice.put(number, self.line(number).is_some());
-        }
-        choice
+        Choice::of(self.lines().map(|line| line.is_some()))
     }
 
-    // Writes the edges of the chosen lines to the front of `edges`, and answers how many they are.
-    pub fn gather(&self, choice: &Choice, edges: &mut [Edge]) -> usize
-        requires { 802 ≤ length edges.old }
-        ensures bound { result ≤ 800 }
-        ensures rest { drop result edges.new ≡ drop result edges.old }
-        ensures gathered { Gathered self.now.devices self.now.lines choice.now.picked 400 (take result edges.new) }
+    // The edges of the chosen lines, each with its weight at the place of the line's number.
+    pub fn gather(&self, choice: &Choice) -> Edges
+        ensures bound { array_vec_len result ≤ 800 }
+        ensures gathered { Gathered self.now.devices self.now.lines choice.now.picked 400 result.items }
     {
-        let mut count = 0;
-        for number in 0..NUMBERS {
+        let mut edges = Edges::new();
+        for (number, line) in self.lines().iter().enumerate() {
             let chosen = choice.has(number);
             if chosen {
-                count = self.gather_one(number, edges, count);
+                self.gather_one(number as u16, *line, &mut edges);
             }
         }
-        count
+        edges
     }
 
     // Adds the edges of the line under one number, if there is one.
-    fn gather_one(&self, number: usize, edges: &mut [Edge], count: usize) -> usize
-        requires number { number < 400 }
-        requires room { count + 2 ≤ length edges.old }
-        ensures bound { result ≤ count + 2 }
-        ensures rest { drop result edges.new ≡ drop result edges.old }
-        ensures wrote { take result edges.new ≡ take count edges.old ++ edges_under self.now.devices self.now.lines number }
+    fn gather_one(&self, number: u16, line: Option<Line>, edges: &mut Edges)
+        requires { array_vec_len edges.old + 2 ≤ 802 }
+        ensures { edges.new.items ≡ edges.old.items ++ edges_of_record self.now.devices number line }
     {
-        match self.line(number) {
-            None => count,
-            Some(line) => append(edges, count, line.edges(self.devices(), number as u16)),
+        if let Some(line) = line {
+            append(edges, line.edges(self.devices(), number));
         }
     }
 
@@ -77,21 +64,10 @@ impl Table {
         ensures weighed { Weighed S.OrderedSums self.now.lines weights.new }
         ensures others { Spared S.OrderedSums self.now.lines weights.old weights.new }
     {
-        for number in 0..NUMBERS {
-            self.weigh_one(number, weights);
-        }
-    }
-
-    // Works out the weight of the line under one number, if there is one.
-    fn weigh_one<S: Scale>(&self, number: usize, weights: &mut [S])
-        requires number { number < 400 }
-        requires room { number < length weights.old }
-        ensures here { (l : Line) → Shows self.now.lines number l → Weighs S.OrderedSums l (times_of S.OrderedSums weights.new number) }
-        ensures others { (k : ℕ) → (k ≢ number) → times_of S.OrderedSums weights.new k ≡ times_of S.OrderedSums weights.old k }
-        ensures spared { (k : ℕ) → (k ≡ number → slice_index_or self.now.lines k None ≡ None) → times_of S.OrderedSums weights.new k ≡ times_of S.OrderedSums weights.old k }
-    {
-        if let Some(line) = self.line(number) {
-            weights[number] = line.weight();
+        for (number, line) in self.lines().iter().enumerate() {
+            if let Some(line) = line {
+                weights[number] = line.weight();
+            }
         }
     }
 }

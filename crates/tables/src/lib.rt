@@ -6,5 +6,5 @@ mod gather;
 mod table;
 
 pub use choice::Choice;
-pub use gather::append;
+pub use gather::{Edges, append};
 pub use table::{NUMBERS, Table};

@@ -35,11 +35,18 @@ impl Table {
         self.devices
     }
 
+    // The line under a number, if there is one.
     pub fn line(&self, number: usize) -> Option<Line>
-        requires { number < 400 }
         ensures { result ≡ slice_index_or self.now.lines number None }
     {
-        self.lines[number]
+        self.lines.get(number).copied().flatten()
+    }
+
+    // Under each number a line or none.
+    pub(crate) fn lines(&self) -> &[Option<Line>; 400]
+        ensures { result.now ≡ self.now.lines }
+    {
+        &self.lines
     }
 
     // Puts a line, or none, under one number.

@@ -1,5 +1,5 @@
 -- Edges that cover a set of lines: solutions of the edges are the timetables that keep the lines.
-use Rattle.std.proofs.Common.{◌≡◌, ℕ, ◌+◌, ◌<◌, ◌≤◌, Bool, true, false, cond, ltb, List, sym, refl, subst, arith}
+use Rattle.std.proofs.Common.{◌≡◌, ℕ, ◌+◌, ◌<◌, ◌≤◌, cond, ltb, List, Ok, Err, Result, is_ok, sym, refl, subst, arith}
 use Rattle.std.specs.List.{ContainsAt as Has, AllByRecursion}
 use Rattle.std.proofs.ByRecursion.{all-has}
 use Rattle.std.proofs.lemmas.Bool.{lt-ltb, le-ltb, cond-true, cond-false}
@@ -17,6 +17,7 @@ use Rattle.scales.specs.Order as times
 use Rattle.bounds.proofs.Grounds.{has_map, has_from_map}
 use Rattle.bounds.specs.Bounds.{Times, times_of, Solves, Ready, asked, bound_of, bounds, largest}
 use Rattle.bounds.specs.Least.{Searched}
+use Rattle.bounds.specs.declared.system.Unmet.{Unmet}
 use Rattle.verdicts.specs.Covering.{Covers}
 use Rattle.verdicts.specs.Verdicts.{Verdict, floor}
 use Rattle.bounds.specs.declared.edge.Edge.{Edge}
@@ -101,8 +102,8 @@ module _ {S : Type 0} (m : Ghosts S) where
     }
 
     -- what a search from the floor says of the lines
-    pub verdict : (t : Times m) (r : Bool) → n ≤ 200 → m.size (floor m) ≤ 1000000050 → Low m largest (n + 2) (floor m) → Searched m n (bounds m weights es) (floor m) t r → Verdict m n lines t r
-    verdict t true few sized low found = (
+    pub verdict : (t : Times m) (r : Result (Unit {0}) Unmet) → n ≤ 200 → m.size (floor m) ≤ 1000000050 → Low m largest (n + 2) (floor m) → Searched m n (bounds m weights es) (floor m) t r → Verdict m n lines t (is_ok r)
+    verdict t (Ok u) few sized low found = (
       record {
         keeps = solves_keeps t found.solves;
         above = found.above;
@@ -112,4 +113,4 @@ module _ {S : Type 0} (m : Ghosts S) where
       },
       λ x h. omega (arith, found.small x (omega arith)),
     )
-    verdict t false few sized low none = λ s keeps. none.anywhere low (grounded n s) (keeps_solves s keeps).meets
+    verdict t (Err u) few sized low none = λ s keeps. none.anywhere low (grounded n s) (keeps_solves s keeps).meets

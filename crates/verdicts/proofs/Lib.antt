@@ -4,4 +4,5 @@ pub mod Covering
 pub mod Opposing
 pub mod Reducing
 pub mod Standing
+pub mod Weighing
 pub mod Windowing

@@ -1,3 +1,4 @@
+pub mod Benches
 pub mod Choosing
 pub mod Covering
 pub mod Following

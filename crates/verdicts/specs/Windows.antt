@@ -1,26 +1,13 @@
 -- The window of a device.
-use Rattle.std.specs.Prelude.{ℕ, ◌≤◌, List, IfSome, Some, None, Option}
+use Rattle.std.specs.Prelude.{ℕ, ◌≤◌, IfSome, Option}
 use Rattle.lines.specs.Timetables.{Keepable, Earliest, Latest}
 use Rattle.lines.specs.declared.line.Line.{Line}
 use Rattle.scales.specs.declared.sums.OrderedSums.{Ghosts}
-use Rattle.bounds.specs.Bounds.{Bound}
-use Rattle.bounds.specs.Ends.{LeastEnd}
-use Rattle.bounds.specs.declared.ends.End.{End}
-use Rattle.bounds.specs.declared.ends.End.TheVariants.{Unmet, Free, At}
 
 module _ {S : Type 0} (m : Ghosts S) where
   -- an end that is there is not too large to be printed
   abbrev pub PrintableEnd : Option S → Type 0
   PrintableEnd end = IfSome end (λ v. m.size (m.means v) ≤ 1000000000000)
-
-  -- the least end of x under bounds, as an answer
-  abbrev pub end_of : Option (Option S) → End S
-  end_of None = Unmet
-  end_of (Some None) = Free
-  end_of (Some (Some v)) = At v
-
-  abbrev pub LeastOf : ℕ → List (Bound m.Time) → ℕ → Option (Option S) → Type 0
-  LeastOf n bs x r = LeastEnd m n bs x (end_of r)
 
   -- some timetable keeps the lines; the earliest and the latest time of x, each with whether it is there
   pub record Window (lines : Line → Type 0) (x : ℕ) (ends : Option S × Option S) : Type 0 where

@@ -1,10 +1,10 @@
 // Verdicts on the lines of a table: the first timetable or a quarrel, the window of a device, and whether a line follows.
 #![tactic(auto)]
 
+mod bench;
 mod following;
 mod reduce;
 mod settling;
-mod verdict;
 mod windows;
 
 pub use following::{Followed, follows};

@@ -1,61 +1,77 @@
-// Bytes, texts and numbers written into a buffer that a caller lends, from a place on.
-// Each call answers the place behind what it wrote, so that calls follow one another.
+// The text of a printed line, built from bytes, texts and numbers.
 #![tactic(auto)]
 
-ghost use Rattle.std.specs.Prelude.{◌+◌, ◌<◌, ◌≤◌, [], ◌∷◌, length, decimal};
-ghost use Rattle.std.specs.Fmt.{signed_decimal};
-ghost use Rattle.writing.specs.Put.{Put};
+ghost use Rattle.std.specs.Prelude.{◌≡◌, ◌+◌, ◌<◌, ◌≤◌, [], ◌∷◌, ◌++◌, length};
 
-pub fn put_byte(buffer: &mut [u8], at: usize, byte: u8) -> usize
-    requires { at < length buffer.old }
-    ensures { Put at (byte ∷ []) buffer.old result buffer.new }
-{
-    buffer[at] = byte;
-    at + 1
+use arrayvec::ArrayVec;
+use itoa::{Buffer, Integer};
+use std::marker::Model;
+
+// A text of at most N bytes, which lie in the value itself.
+#[derive(Drop)]
+pub struct Text<const N: usize> {
+    bytes: ArrayVec<u8, N>,
 }
 
-pub fn put_text(buffer: &mut [u8], at: usize, text: &[u8]) -> usize
-    requires { at + length text.now ≤ length buffer.old }
-    ensures { Put at text.now buffer.old result buffer.new }
-{
-    let mut end = at;
-    for byte in text {
-        end = put_byte(buffer, end, *byte);
+// Clauses see the bytes.
+impl<const N: usize> Model for Text<N> {
+    ghost use Rattle.std.specs.Prelude.{ℕ, List};
+
+    ghost Value = { List ℕ };
+
+    ghost view = { λ t. t.bytes.items };
+}
+
+impl<const N: usize> Text<N> {
+    pub fn new() -> Text<N>
+        ensures { result ≡ [] }
+    {
+        Text {
+            bytes: ArrayVec::new(),
+        }
     }
-    end
-}
 
-// The number in decimal digits, with no zero in front.
-pub fn put_number(buffer: &mut [u8], at: usize, number: u64) -> usize
-    requires { at + length (decimal number) ≤ length buffer.old }
-    ensures { Put at (decimal number) buffer.old result buffer.new }
-{
-    let digit = b'0' + (number % 10) as u8;
-    if number < 10 {
-        return put_byte(buffer, at, digit);
+    pub fn as_slice(&self) -> &[u8]
+        ensures value { result.now ≡ self.now }
+        ensures fits { length self.now ≤ N }
+    {
+        self.bytes.as_slice()
     }
-    let end = put_number(buffer, at, number / 10);
-    put_byte(buffer, end, digit)
-}
 
-// The number in decimal digits, behind a minus sign where it is below zero.
-pub fn put_signed(buffer: &mut [u8], at: usize, number: i64) -> usize
-    requires { at + length (signed_decimal number) ≤ length buffer.old }
-    ensures { Put at (signed_decimal number) buffer.old result buffer.new }
-{
-    if number < 0 {
-        let end = put_byte(buffer, at, b'-');
-        return put_number(buffer, end, number.unsigned_abs());
+    pub fn push_byte(&mut self, byte: u8)
+        requires { length self.old < N }
+        ensures { self.new ≡ self.old ++ byte ∷ [] }
+    {
+        self.bytes.push(byte);
     }
-    put_number(buffer, at, number.unsigned_abs())
-}
 
-// A space and a number: one field of a line.
-pub fn put_field(buffer: &mut [u8], at: usize, number: u64) -> usize
-    requires { at + 21 ≤ length buffer.old }
-    ensures bound { result ≤ at + 21 }
-    ensures wrote { Put at (32 ∷ decimal number) buffer.old result buffer.new }
-{
-    let end = put_byte(buffer, at, b' ');
-    put_number(buffer, end, number)
+    pub fn push_text(&mut self, text: &[u8])
+        requires { length self.old + length text.now ≤ N }
+        ensures { self.new ≡ self.old ++ text.now }
+    {
+        let Ok(()) = self.bytes.try_extend_from_slice(text) else {
+            unreachable()
+        };
+    }
+
+    // The number in decimal digits, with no zero in front, behind a minus sign where it is below zero.
+    pub fn push_number<I: Integer>(&mut self, number: I)
+        requires { length self.old + length (I.text number) ≤ N }
+        ensures { self.new ≡ self.old ++ I.text number }
+    {
+        let mut digits = Buffer::new();
+        self.push_text(digits.format(number).as_bytes());
+    }
+
+    // A space and a number: one field of a line.
+    pub fn push_field<I: Integer>(&mut self, number: I)
+        requires { length self.old + I.MAX_STR_LEN + 1 ≤ N }
+        ensures bound { length self.new ≤ length self.old + I.MAX_STR_LEN + 1 }
+        ensures wrote { self.new ≡ self.old ++ 32 ∷ I.text number }
+    {
+        let mut digits = Buffer::new();
+        let field = digits.format(number).as_bytes();
+        self.push_byte(b' ');
+        self.push_text(field);
+    }
 }

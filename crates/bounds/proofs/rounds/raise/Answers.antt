@@ -1,18 +1,12 @@
 use Rattle.std.proofs.Common.{◌≡◌, ◌-◌, ◌<◌, cond, length, sym, ap, ◌∙◌, subst, arith}
 use Rattle.scales.specs.Order.{NotAfter}
 use Rattle.scales.proofs.Lawful.{laws_of}
-use Rattle.scales.proofs.Order.{along}
 use Rattle.bounds.specs.Bounds.{times_of, bound_of, asked}
 use Rattle.bounds.proofs.Grounds.{fit_grounded}
-use Rattle.bounds.proofs.Rows.{times_read, passed, failed, raised_kept, raised_set}
+use Rattle.bounds.proofs.Rows.{times_read, failed, raised_set}
 use Rattle.bounds.proofs.rounds.raise.Given as given
 use Rattle.bounds.proofs.rounds.raise.Goals as goal
 use Rattle.bounds.proofs.rounds.raise.Goals.{After-index-old-edge, After-not_after}
-
-pub directed-by-requires : goal.directed-by-requires
-directed-by-requires g c =
-    let m = g.S.OrderedSums in
-    omega (arith, ap m.size (times_read m c.args.weights.now c.args.edge.weight c.index-weights-edge.result c.requires.fit.weight_in c.index-weights-edge.is), c.requires.fit.short)
 
 -- the bound's time
 meant : (g : given.Over) (c : After-index-old-edge g) → g.S.OrderedSums.means c.directed-by.result ≡ (bound_of g.S.OrderedSums c.args.weights.now c.args.edge).by
@@ -48,11 +42,3 @@ returns-then-not-not_after g c =
     (omega (arith, c.requires.rows, c.requires.fit.at_in, c.requires.some))
     (summed g d.After-index-old-edge c.sum-asked.result c.sum-asked.ensures)
     (λ le. failed m (m.means c.sum-asked.result) (m.means c.index-new-edge.result) c.if-not-not_after.ensures (subst (NotAfter m (m.means c.sum-asked.result)) (stood_at g d.After-not_after) le))
-
-pub returns-else-not-not_after : goal.returns-else-not-not_after
-returns-else-not-not_after g c =
-    let m = g.S.OrderedSums in
-    let d = goal.at.returns-else-not-not_after g c in
-    let laws = laws_of g.met.S.OrderedSums in
-    raised_kept m laws (bound_of m c.args.weights.now c.args.edge) c.args.old.now c.args.new.now
-    (along m laws (summed g d.After-index-old-edge c.sum-asked.result c.sum-asked.ensures) (sym (stood_at g d.After-not_after)) (passed m (m.means c.sum-asked.result) (m.means c.index-new-edge.result) c.if-not-not_after.ensures))

@@ -1,5 +1,4 @@
-use Rattle.std.proofs.Common.{[], refl, ◌∙◌, subst}
-use Rattle.std.proofs.lemmas.Result.{err_from_is_err_and}
+use Rattle.std.proofs.Common.{[], ◌∙◌, subst}
 use Rattle.lives.specs.Lives.{Lived}
 use Rattle.lives.proofs.Stands.{nothing_stands}
 use Rattle.lives.proofs.life.live.Goals as goal
@@ -18,9 +17,3 @@ returns g c =
       checks = new.checks;
       lengths = c.go_on.ensures.lengths;
     }
-
-pub returns-in_err-book : goal.returns-in_err-book
-returns-in_err-book g c =
-    let p = err_from_is_err_and c.from_residual.result c.from_residual.ensures.1 in
-    let refused = c.in_err-book.ensures in
-    rw (p.1, p.2) (record { lived = (refused.begins.0, refused.begins.1, refl); checks = refused.checks; lengths = λ i d h. record { times = refl; names = refl; work = refl } })

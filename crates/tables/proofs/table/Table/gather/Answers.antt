@@ -1,11 +1,8 @@
-use Rattle.std.proofs.Common.{length, sym, refl, ap, ◌∙◌, arith, length-append, length-take}
-use Rattle.tables.proofs.Edges.{gathered_none, gathered_skip, gathered_more}
-use Rattle.tables.proofs.Rests.{same_further}
+use Rattle.std.proofs.Common.{◌≡◌, ◌++◌, length, get_or, None, sym, ap, ◌∙◌, arith, length-append}
+use Rattle.tables.specs.Gathering.{edges_of_record, edges_under}
+use Rattle.tables.proofs.Edges.{few_under, gathered_skip, gathered_more}
 use Rattle.tables.proofs.table.Table.gather.Goals as goal
 use Rattle.tables.proofs.table.Table.gather.Goals.{then-chosen, else-chosen}
-
-pub loop-number-init : goal.loop-number-init
-loop-number-init c = (refl, omega arith, gathered_none _ _ _)
 
 pub loop-number-preserved : goal.loop-number-preserved
 loop-number-preserved c =
@@ -15,14 +12,13 @@ loop-number-preserved c =
     let i = c.loop-number.number in
     elim c.if-chosen.branch [
       | then-chosen w ↦
-          let one = w.gather_one-count.ensures in (
-            rw (w.count-is, w.edges-is) (one.rest ∙ same_further c.loop-number.edges c.args.edges.now c.loop-number.count _ (omega (arith, simp (length-take, length-append) at (ap length one.wrote))) c.loop-number.invariant.0),
-            omega (arith, w.count-is, one.bound, c.loop-number.invariant.1),
-            rw (w.count-is, w.edges-is, one.wrote) (gathered_more n records picked i _ (sym c.has-chosen.ensures ∙ w.if-chosen.true) c.loop-number.invariant.2),
+          let wrote : w.gather_one.new.edges.items ≡ c.loop-number.edges.items ++ edges_of_record n i (get_or c.lines-line-items.result.now i None) = w.gather_one.ensures in
+          let all : c.if-chosen.edges.items ≡ c.loop-number.edges.items ++ edges_under n records i = ap (λ e. e.items) w.edges-is ∙ wrote ∙ ap (λ ls. c.loop-number.edges.items ++ edges_of_record n i (get_or ls i None)) c.lines-line-items.ensures in (
+            omega (arith, ap length all, length-append c.loop-number.edges.items (edges_under n records i), few_under n records i, c.loop-number.invariant.0),
+            rw all (gathered_more n records picked i _ (sym c.has-chosen.ensures ∙ w.if-chosen.true) c.loop-number.invariant.1),
           )
       | else-chosen w ↦ (
-        rw (w.count-is, w.edges-is) c.loop-number.invariant.0,
-        omega (arith, w.count-is, c.loop-number.invariant.1),
-        rw (w.count-is, w.edges-is) (gathered_skip n records picked i _ (sym c.has-chosen.ensures ∙ w.if-chosen.false) c.loop-number.invariant.2),
+        omega (arith, ap (λ e. length e.items) w.edges-is, c.loop-number.invariant.0),
+        rw w.edges-is (gathered_skip n records picked i _ (sym c.has-chosen.ensures ∙ w.if-chosen.false) c.loop-number.invariant.1),
       )
     ]

@@ -1,0 +1,9 @@
+use Rattle.std.proofs.Common.{◌<◌, ◌≤◌, length, subst, arith}
+use Rattle.bounds.proofs.Rows.{times_read}
+use Rattle.printing.proofs.fields.push_times.Goals as goal
+
+pub push_time-requires-clause-size : goal.push_time-requires-clause-size
+push_time-requires-clause-size g c =
+    let m = g.S.OrderedSums in
+    let within : c.loop-time.time-index < length c.args.times.now = omega arith in
+    subst (λ t. m.size t ≤ 1000000000000) (times_read m c.args.times.now c.loop-time.time-index c.time-item.result within c.time-item.is) (c.requires.printable c.loop-time.time-index within)
