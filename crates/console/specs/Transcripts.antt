@@ -11,7 +11,7 @@ abbrev pub Read : List ℕ → Result (Unit {0}) Fault → Type 0
 Read bs (Ok r) = Opened bs × Ends bs 6 (Ok r)
 Read bs (Err f) = Unopenable bs f ⊎ (Opened bs × Ends bs 6 (Err f))
 
--- the line that its end or its fault prints
+-- what is printed of the bytes: the one line of the session's end or of its fault
 pub record Transcript (bs out : List ℕ) : Type 0 where
   pub ending : Result (Unit {0}) Fault
   pub read : Read bs ending
