@@ -1,3 +1,4 @@
 pub mod Going
+pub mod Lining
 pub mod Running
 pub mod Showing

@@ -22,7 +22,9 @@ impl<S: OrderedSums> System<'_, '_, S> {
         requires within { device < self.now.devices }
         ensures { LeastEnd S.OrderedSums self.now.devices (bounds S.OrderedSums self.now.weights.now self.now.edges.now) device result }
     {
-        self.least_times(start, times, spare)?;
+        let Ok(()) = self.least_times(start, times, spare) else {
+            return Err(Unmet);
+        };
         let time = times[device];
         if held_by_start(time, start) {
             return Ok(None);

@@ -30,7 +30,11 @@ impl Table {
     pub fn standing(&self) -> Choice
         ensures { Picked self.now.lines result.picked }
     {
-        Choice::of(self.lines().map(|line| line.is_some()))
+        let mut picked = [false; 400];
+        for (number, line) in self.lines().iter().enumerate() {
+            picked[number] = line.is_some();
+        }
+        Choice::of(picked)
     }
 
     // The edges of the chosen lines, each with its weight at the place of the line's number.
@@ -39,13 +43,22 @@ impl Table {
         ensures gathered { Gathered self.now.devices self.now.lines choice.now.picked 400 result.items }
     {
         let mut edges = Edges::new();
+        self.gather_into(choice, &mut edges);
+        edges
+    }
+
+    // The same edges, in place of those that the list held. A list that is lent is filled without a move, time after time.
+    pub fn gather_into(&self, choice: &Choice, edges: &mut Edges)
+        ensures bound { array_vec_len edges.new ≤ 800 }
+        ensures gathered { Gathered self.now.devices self.now.lines choice.now.picked 400 edges.new.items }
+    {
+        edges.clear();
         for (number, line) in self.lines().iter().enumerate() {
             let chosen = choice.has(number);
             if chosen {
-                self.gather_one(number as u16, *line, &mut edges);
+                self.gather_one(number as u16, *line, edges);
             }
         }
-        edges
     }
 
     // Adds the edges of the line under one number, if there is one.

@@ -1,6 +1,5 @@
 // Whether lines can be kept together, and which times they leave a device: searches over the lines of a table.
 ghost use Rattle.std.specs.Prelude.{◌≡◌, ◌+◌, ◌<◌, ◌≤◌, length, IfSome};
-ghost use Rattle.arrayvec.specs.ArrayVec.{array_vec_len};
 ghost use Rattle.lines.specs.Proper.{Limited};
 ghost use Rattle.bounds.specs.Bounds.{Ready, bounds, times_of};
 ghost use Rattle.bounds.specs.Ends.{LeastEnd};
@@ -9,7 +8,7 @@ ghost use Rattle.verdicts.specs.Benches.{Weighted};
 ghost use Rattle.verdicts.specs.Covering.{Covers};
 ghost use Rattle.verdicts.specs.Verdicts.{Shown, Verdict, chosen_lines};
 
-use bounds::{Edge, System, Unmet};
+use bounds::{System, Unmet};
 use lines::Line;
 use scales::{Scale, low_start};
 use tables::{Choice, Edges, Table, append};
@@ -22,13 +21,15 @@ const ROWS: usize = 402;
 // The number that one more line goes by, behind those of the table.
 const MORE: u16 = 400;
 
-// What searches over the lines of a table work with: two rows of times, and the weight of each line at the place of its number.
+// What searches over the lines of a table work with: two rows of times, the weight of each line at the place of its number, and a list
+// for the edges of a search, so that it is made once and not moved.
 #[derive(Drop)]
 pub(crate) struct Bench<'a, S: Scale> {
     table: &'a Table,
     row: &'a mut [S],
     spare: &'a mut [S],
     weights: &'a mut [S],
+    pub(crate) edges: &'a mut Edges,
     ghost row_full: { length row.now ≡ devices_of table.now + 1 },
     ghost spare_full: { length spare.now ≡ devices_of table.now + 1 },
     ghost places: { 401 ≤ length weights.now },
@@ -37,7 +38,7 @@ pub(crate) struct Bench<'a, S: Scale> {
 
 impl<'a, S: Scale> Bench<'a, S> {
     // Lays the work buffer out, and weighs the lines.
-    pub(crate) fn new(table: &'a Table, work: &'a mut [S]) -> Bench<'a, S>
+    pub(crate) fn new(table: &'a Table, work: &'a mut [S], edges: &'a mut Edges) -> Bench<'a, S>
         requires { 1000 ≤ length work.old }
         ensures { result.table.now ≡ table.now }
     {
@@ -50,22 +51,23 @@ impl<'a, S: Scale> Bench<'a, S> {
             row: &mut row[..places],
             spare: &mut spare[..places],
             weights,
+            edges,
         }
     }
 
-    // The edges of the chosen lines and of the one more, which is weighed too. That it is within its limits is asked by each call that hands
-    // it on: a type for it would have to carry the number of devices. And each says that the table is the same, since the bench is lent whole.
-    pub(crate) fn cover(&mut self, choice: &Choice, more: Option<Line>) -> Edges
+    // Lists the edges of the chosen lines and of the one more, which is weighed too. That it is within its limits is asked by each call that
+    // hands it on: a type for it would have to carry the number of devices. And each says that the table is the same, since the bench is lent
+    // whole.
+    pub(crate) fn cover(&mut self, choice: &Choice, more: Option<Line>)
         requires limited { IfSome more (Limited (devices_of self.old.table.now)) }
         ensures table { self.new.table ≡ self.old.table }
-        ensures covers { Covers S.OrderedSums (devices_of self.old.table.now) self.new.weights.now result.items (chosen_lines (records_of self.old.table.now) (picked_of choice.now) more) }
+        ensures covers { Covers S.OrderedSums (devices_of self.old.table.now) self.new.weights.now self.new.edges.now.items (chosen_lines (records_of self.old.table.now) (picked_of choice.now) more) }
     {
-        let mut edges = self.table.gather(choice);
+        self.table.gather_into(choice, self.edges);
         if let Some(line) = more {
             self.weights[MORE as usize] = line.weight();
-            append(&mut edges, line.edges(self.table.devices(), MORE));
+            append(self.edges, line.edges(self.table.devices(), MORE));
         }
-        edges
     }
 
     // Whether some timetable keeps the chosen lines and the one more. If so, the first of them stands in `row`. A question has yes or no
@@ -75,12 +77,13 @@ impl<'a, S: Scale> Bench<'a, S> {
         ensures table { self.new.table ≡ self.old.table }
         ensures verdict { Verdict S.OrderedSums (devices_of self.old.table.now) (chosen_lines (records_of self.old.table.now) (picked_of choice.now) more) (times_of S.OrderedSums self.new.row.now) result }
     {
-        let edges = self.cover(choice, more);
+        self.cover(choice, more);
         let devices = self.table.devices() as usize;
         let weights = &mut *self.weights;
+        let edges = &mut *self.edges;
         let system = System {
             devices,
-            edges: &edges,
+            edges: edges.as_slice(),
             weights,
         };
         system
@@ -103,19 +106,21 @@ impl<'a, S: Scale> Bench<'a, S> {
         kept
     }
 
-    // The least time of a device under edges, if there is a least one.
-    pub(crate) fn least_end(&mut self, edges: &[Edge], device: u8) -> Result<Option<S>, Unmet>
+    // The least time of a device under the listed edges, if there is a least one.
+    pub(crate) fn least_end(&mut self, device: u8) -> Result<Option<S>, Unmet>
         requires device { device < devices_of self.old.table.now }
-        requires ready { Ready S.OrderedSums (devices_of self.old.table.now) self.old.weights.now edges.now }
+        requires ready { Ready S.OrderedSums (devices_of self.old.table.now) self.old.weights.now self.old.edges.now.items }
         ensures table { self.new.table ≡ self.old.table }
         ensures weights { self.new.weights.now ≡ self.old.weights.now }
-        ensures least { LeastEnd S.OrderedSums (devices_of self.old.table.now) (bounds S.OrderedSums self.old.weights.now edges.now) device result }
+        ensures edges { self.new.edges.now ≡ self.old.edges.now }
+        ensures least { LeastEnd S.OrderedSums (devices_of self.old.table.now) (bounds S.OrderedSums self.old.weights.now self.old.edges.now.items) device result }
     {
         let devices = self.table.devices() as usize;
         let weights = &mut *self.weights;
+        let edges = &mut *self.edges;
         let system = System {
             devices,
-            edges,
+            edges: edges.as_slice(),
             weights,
         };
         system.least_end(low_start(), device as usize, self.row, self.spare)

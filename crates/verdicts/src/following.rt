@@ -7,7 +7,7 @@ ghost use Rattle.verdicts.specs.Following.{FollowedAs};
 use crate::bench::Bench;
 use lines::Line;
 use scales::Scale;
-use tables::Table;
+use tables::{Edges, Table};
 
 // What follows answers: yes, or no with a timetable that shows it in its buffer. The words are those of the printed line, which a bool
 // would not tell.
@@ -24,7 +24,8 @@ pub fn follows<S: Scale>(table: &Table, line: Line, times: &mut [S], work: &mut 
     requires buffers { (devices_of table.now ≤ length times.old) × (1000 ≤ length work.old) }
     ensures { FollowedAs S.OrderedSums (devices_of table.now) (Shows (records_of table.now)) line times.old result times.new }
 {
-    let mut bench = Bench::new(table, work);
+    let mut edges = Edges::new();
+    let mut bench = Bench::new(table, work, &mut edges);
     let standing = table.standing();
     let (first, second) = line.op.opposites();
     if bench.shows(&standing, Some(Line { op: first, ..line }), times) {

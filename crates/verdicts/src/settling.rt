@@ -5,7 +5,7 @@ ghost use Rattle.verdicts.specs.Settling.{SettledAs};
 
 use crate::bench::Bench;
 use scales::Scale;
-use tables::Table;
+use tables::{Edges, Table};
 
 // What settle answers: the first timetable stands in its buffer, or the numbers of so many lines that quarrel stand in theirs. Both are
 // answers, and neither is an error, so that it is no `Result`.
@@ -25,7 +25,8 @@ pub fn settle<S: Scale>(
     requires buffers { (devices_of table.now ≤ length times.old) × ((400 ≤ length names.old) × (1000 ≤ length work.old)) }
     ensures { SettledAs S.OrderedSums (devices_of table.now) (Shows (records_of table.now)) times.old names.old result times.new names.new }
 {
-    let mut bench = Bench::new(table, work);
+    let mut edges = Edges::new();
+    let mut bench = Bench::new(table, work, &mut edges);
     let mut choice = table.standing();
     if bench.shows(&choice, None, times) {
         return Settled::Times;

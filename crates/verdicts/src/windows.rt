@@ -8,7 +8,7 @@ ghost use Rattle.verdicts.specs.Windows.{Window};
 use crate::bench::Bench;
 use bounds::{Unmet, turn};
 use scales::Scale;
-use tables::Table;
+use tables::{Edges, Table};
 
 // The earliest and the latest time that any timetable keeping the standing lines gives a device: the least time under their edges,
 // and the opposite of the least time under the edges with their ends exchanged. An error says that the lines clash. The
@@ -22,11 +22,12 @@ pub fn window<S: Scale>(
     requires buffer { 1000 ≤ length work.old }
     ensures { MatchResult result (Window S.OrderedSums (standing (Shows (records_of table.now))) device) (λ _. Clashes S.OrderedSums (standing (Shows (records_of table.now)))) }
 {
-    let mut bench = Bench::new(table, work);
-    let mut edges = bench.cover(&table.standing(), None);
-    let earliest = bench.least_end(&edges, device)?;
-    turn(&mut edges);
-    match bench.least_end(&edges, device)? {
+    let mut edges = Edges::new();
+    let mut bench = Bench::new(table, work, &mut edges);
+    bench.cover(&table.standing(), None);
+    let earliest = bench.least_end(device)?;
+    turn(bench.edges.as_mut_slice());
+    match bench.least_end(device)? {
         None => Ok((earliest, None)),
         Some(time) => Ok((earliest, Some(time.opposite()))),
     }

@@ -3,7 +3,10 @@
 
 ghost use Rattle.std.specs.Prelude.{◌≡◌, ◌+◌, ◌<◌, ◌≤◌, [], ◌∷◌, ◌++◌, length};
 
+mod front;
+
 use arrayvec::ArrayVec;
+pub use front::Front;
 use itoa::{Buffer, Integer};
 use std::marker::Model;
 

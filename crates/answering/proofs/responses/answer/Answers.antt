@@ -5,8 +5,8 @@ use Rattle.printing.specs.Shown.{Shown}
 use Rattle.answering.proofs.Showing.{shown}
 use Rattle.answering.proofs.responses.answer.Goals as goal
 
-pub call_line-requires-clause-shown : goal.call_line-requires-clause-shown
-call_line-requires-clause-shown g c =
+pub put_line-requires-clause-shown : goal.put_line-requires-clause-shown
+put_line-requires-clause-shown g c =
     let m = g.S.OrderedSums in
     let book = c.args.book.now in
     let made = c.perform.ensures in

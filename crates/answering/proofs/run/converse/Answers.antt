@@ -28,10 +28,10 @@ returns-in_err-call g c =
 
 pub loop-step-preserved : goal.loop-step-preserved
 loop-step-preserved g c =
-    let made = c.answer.ensures in
+    let made = c.in_ok-add_answer.ensures in
     let gives = subst (λ (next : Option (Call × Commands)). Gives c.loop-step.reader (Ok next)) c.in-Some.is c.in_ok-call.ensures.gives in
-    one_more g.S.OrderedSums (laws_of g.met.S.OrderedSums) c.loop-step.invariant c.in-Some.call c.answer.new.book c.answer.new.step made.performed c.in-Some.rest gives
-    (vec_items c.extend_from_slice.new.self) (cc (c.in_ok-extend_from_slice.ensures.items, c.as_slice.ensures.value, made.line))
+    one_more g.S.OrderedSums (laws_of g.met.S.OrderedSums) c.loop-step.invariant c.in-Some.call c.add_answer.new.book c.add_answer.new.step made.performed c.in-Some.rest gives
+    (vec_items c.add_answer.new.out) made.added
 
 pub returns : goal.returns
 returns g c =

@@ -1,5 +1,4 @@
 use Rattle.std.proofs.Common.{◌≡◌, ◌+◌, ◌≤◌, sym, refl, ap, subst, arith}
-use Rattle.std.proofs.lemmas.Result.{err_from_is_err_and}
 use Rattle.scales.specs.Order.{NotAfter}
 use Rattle.scales.proofs.Lawful.{laws_of}
 use Rattle.scales.proofs.Order.{along}
@@ -12,11 +11,10 @@ use Rattle.bounds.proofs.system.System.least_end.Given as given
 use Rattle.bounds.proofs.system.System.least_end.Goals as goal
 use Rattle.bounds.proofs.system.System.least_end.Goals.{After-index-times-device}
 
-pub returns-in_err-least_times : goal.returns-in_err-least_times
-returns-in_err-least_times g c =
+pub returns-in_default : goal.returns-in_default
+returns-in_default g c =
     let m = g.S.OrderedSums in
-    let p = err_from_is_err_and c.from_residual.result c.from_residual.ensures.1 in
-    rw p.1 (c.in_err-least_times.ensures.anywhere (low_fewer m (laws_of g.met.S.OrderedSums) largest (c.args.self.now.devices + 2) strides (m.means c.args.start) (omega (arith, c.args.self.now.few)) c.requires.low))
+    c.in_default.ensures.anywhere (low_fewer m (laws_of g.met.S.OrderedSums) largest (c.args.self.now.devices + 2) strides (m.means c.args.start) (omega (arith, c.args.self.now.few)) c.requires.low)
 
 -- the device's time
 found : (g : given.Over) (c : After-index-times-device g) → times_of g.S.OrderedSums c.least_times.new.times c.args.device ≡ g.S.OrderedSums.means c.index-times-device.result
@@ -27,7 +25,7 @@ found g c =
 
 -- it is not large
 small : (g : given.Over) (c : After-index-times-device g) → g.S.OrderedSums.size (g.S.OrderedSums.means c.index-times-device.result) ≤ 3000000000
-small g c = omega (arith, c.in_ok-least_times.ensures.small c.args.device (omega (arith, c.requires.within)), ap g.S.OrderedSums.size (found g c), c.args.self.now.few, c.requires.size)
+small g c = omega (arith, c.in-Ok.ensures.small c.args.device (omega (arith, c.requires.within)), ap g.S.OrderedSums.size (found g c), c.args.self.now.few, c.requires.size)
 
 pub held_by_start-requires : goal.held_by_start-requires
 held_by_start-requires g c = small g (goal.at.held_by_start-requires g c).After-index-times-device
@@ -41,7 +39,7 @@ returns-then-held_by_start g c =
     let v = m.means c.index-times-device.result in
     let bs = bounds m c.args.self.now.weights.now c.args.self.now.edges.now in
     let read = found g (goal.at.returns-then-held_by_start g c).After-index-times-device in
-    free m laws start c.requires.low n c.args.self.now.few bs (ready_grounded m laws n c.args.self.now.weights.now c.args.self.now.edges.now c.args.self.now.ready) (times_of m c.least_times.new.times) c.in_ok-least_times.ensures c.args.device
+    free m laws start c.requires.low n c.args.self.now.few bs (ready_grounded m laws n c.args.self.now.weights.now c.args.self.now.edges.now c.args.self.now.ready) (times_of m c.least_times.new.times) c.in-Ok.ensures c.args.device
     (subst (λ z. NotAfter m (m.plus z z) start) (sym read) (passed m (m.plus v v) start c.if-held_by_start.ensures))
 
 pub returns : goal.returns
@@ -55,9 +53,9 @@ returns g c =
     let bs = bounds m c.args.self.now.weights.now c.args.self.now.edges.now in
     let here = (goal.at.returns g c).After-index-times-device in
     let read = found g here in (
-      (t, c.in_ok-least_times.ensures.solves, read),
+      (t, c.in-Ok.ensures.solves, read),
       λ s solves. along m laws read refl
-          (held_least m laws start c.requires.low n c.args.self.now.few bs (ready_grounded m laws n c.args.self.now.weights.now c.args.self.now.edges.now c.args.self.now.ready) t c.in_ok-least_times.ensures c.args.device (omega (arith, c.requires.within))
+          (held_least m laws start c.requires.low n c.args.self.now.few bs (ready_grounded m laws n c.args.self.now.weights.now c.args.self.now.edges.now c.args.self.now.ready) t c.in-Ok.ensures c.args.device (omega (arith, c.requires.within))
           (λ h. failed m (m.plus v v) start c.if-held_by_start.ensures (subst (λ z. NotAfter m (m.plus z z) start) read h))
           s solves),
       small g here,

@@ -14,20 +14,20 @@ pub invariant_of-system : goal.invariant_of-system
 invariant_of-system g c =
     let m = g.S.OrderedSums in
     let table = c.args.self.now.table.now in
-    let all : c.devices-devices.result ≡ devices_of table = c.devices-devices.ensures ∙ ap (λ t. devices_of t.now) c.cover-edges.ensures.table in
+    let all : c.devices-devices.result ≡ devices_of table = c.devices-devices.ensures ∙ ap (λ t. devices_of t.now) c.cover.ensures.table in
     record {
       few = omega (arith, few table, all);
-      ready = rw (all, c.deref.ensures.0) (ready m (devices_of table) c.cover-edges.new.self.weights.now c.cover-edges.result.items _ c.cover-edges.ensures.covers);
+      ready = rw (all, c.as_slice.ensures.value) (ready m (devices_of table) c.cover.new.self.weights.now c.cover.new.self.edges.now.items _ c.cover.ensures.covers);
     }
 
 pub returns-clause-verdict : goal.returns-clause-verdict
 returns-clause-verdict g c =
     let m = g.S.OrderedSums in
     let table = c.args.self.now.table.now in
-    let W = c.cover-edges.new.self.weights.now in
-    let all : c.devices-devices.result ≡ devices_of table = c.devices-devices.ensures ∙ ap (λ t. devices_of t.now) c.cover-edges.ensures.table in
+    let W = c.cover.new.self.weights.now in
+    let all : c.devices-devices.result ≡ devices_of table = c.devices-devices.ensures ∙ ap (λ t. devices_of t.now) c.cover.ensures.table in
     rw c.is_ok.ensures.value
-    (verdict m (devices_of table) W c.cover-edges.result.items _ c.cover-edges.ensures.covers _ _ (few table)
+    (verdict m (devices_of table) W c.cover.new.self.edges.now.items _ c.cover.ensures.covers _ _ (few table)
     (omega (arith, c.low_start.ensures.size, ap m.size c.low_start.ensures.reads))
     (low_fewer m (laws_of g.met.S.OrderedSums) _ (devices_of table + 2) 406 _ (omega (arith, few table)) (subst (Low m largest 406) c.low_start.ensures.reads c.low_start.ensures.low))
-    (carried (λ n es start. Searched m n (bounds m W es) start (times_of m c.least_times.new.times) c.least_times.result) all c.deref.ensures.0 c.low_start.ensures.reads c.least_times.ensures))
+    (carried (λ n es start. Searched m n (bounds m W es) start (times_of m c.least_times.new.times) c.least_times.result) all c.as_slice.ensures.value c.low_start.ensures.reads c.least_times.ensures))

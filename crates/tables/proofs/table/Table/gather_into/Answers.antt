@@ -1,8 +1,8 @@
 use Rattle.std.proofs.Common.{◌≡◌, ◌++◌, length, get_or, None, sym, ap, ◌∙◌, arith, length-append}
 use Rattle.tables.specs.Gathering.{edges_of_record, edges_under}
 use Rattle.tables.proofs.Edges.{few_under, gathered_skip, gathered_more}
-use Rattle.tables.proofs.table.Table.gather.Goals as goal
-use Rattle.tables.proofs.table.Table.gather.Goals.{then-chosen, else-chosen}
+use Rattle.tables.proofs.table.Table.gather_into.Goals as goal
+use Rattle.tables.proofs.table.Table.gather_into.Goals.{then-chosen, else-chosen}
 
 pub loop-number-preserved : goal.loop-number-preserved
 loop-number-preserved c =
